@@ -20,7 +20,7 @@ mod wrong;
 pub use fault::{ArgumentFault, Open, StepFault};
 pub use listener::{Listener, Silent};
 pub use motion::Shown;
-pub use news::News;
+pub use news::{News, turned};
 pub use uses::{Reader, Use, read_first, read_second};
 pub use verdict::{check_argument, check_certificate, hear_argument, judge_argument};
 pub use view::View;

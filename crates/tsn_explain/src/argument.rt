@@ -1,15 +1,13 @@
 //! What an argument shows, in words.
 use crate::narrator::Narrator;
 use crate::needs::{Part, part_of};
+use crate::tree::MOST_TOLD;
 use crate::words::Grouped;
 use crate::writer::Writer;
 use std::alloc::AllocError;
 use tsn_argue::hear_argument;
 use tsn_cert::{Argument, Goal, Plan};
 use tsn_check::CheckFault;
-
-// The most steps that are told one by one.
-const MOST_TOLD: usize = 12;
 
 impl Writer<'_> {
     /// Writes why the argument's target is right.

@@ -4,14 +4,12 @@ use crate::load::Load;
 use crate::marked::{Mention, mentions_of};
 use crate::needs::Part;
 use crate::network::TimedNetwork;
+use crate::tree::MOST_LINKS;
 use crate::words::Grouped;
 use crate::writer::Writer;
 use std::alloc::{AllocError, Global};
 use tsn_cert::{Argument, Goal};
 use tsn_model::Frame;
-
-// How many links are told.
-const MOST_LINKS: usize = 5;
 
 // How many streams are told of a link.
 const MOST_STREAMS: usize = 6;
@@ -104,8 +102,7 @@ fn most_used(alloc: Global, mut uses: Vec<usize>) -> Result<Vec<Frame>, AllocErr
     }
     streams.sort()?;
     let mut frames = Vec::new(alloc);
-    for stream in &streams {
-        let stream = *stream;
+    for stream in streams {
         frames.push(Frame { stream, shift: 0 })?;
     }
     Ok(frames)

@@ -2,10 +2,10 @@
 use crate::load::Load;
 use crate::marked::Mentions;
 use crate::narrator::Narrator;
-use crate::network::{sides, turned};
+use crate::network::sides;
 use crate::words::{Frames, Grouped};
 use std::alloc::{AllocError, Global};
-use tsn_argue::{News, Shown, View};
+use tsn_argue::{News, Shown, View, turned};
 use tsn_cert::{Fact, Move, Order, Placing};
 use tsn_model::{Decision, Frame};
 

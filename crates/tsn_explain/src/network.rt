@@ -133,12 +133,3 @@ pub fn sides(decision: Decision) -> (usize, usize, i128) {
         Side::Right => (right, left, -(lag as i128)),
     }
 }
-
-/// The other decision.
-pub fn turned(decision: Decision) -> Decision {
-    let side = match decision.side {
-        Side::Left => Side::Right,
-        Side::Right => Side::Left,
-    };
-    Decision { side, ..decision }
-}

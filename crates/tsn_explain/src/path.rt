@@ -1,7 +1,8 @@
 //! The way through a tree of decisions, and what its chains come to.
 use crate::load::Load;
-use crate::network::{TimedNetwork, sides, turned};
+use crate::network::{TimedNetwork, sides};
 use std::alloc::{AllocError, Global};
+use tsn_argue::turned;
 use tsn_cert::{Chain, Entries, Node};
 use tsn_model::{Decision, Side};
 use tsn_text::ListBuilder;

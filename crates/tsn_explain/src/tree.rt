@@ -9,11 +9,11 @@ use crate::writer::Writer;
 use std::alloc::{AllocError, Global};
 use tsn_cert::{Cert, Entries, Format, Leaf, LowerBound, Node};
 
-/// The most nodes of a tree all of whose leaves are told.
+/// The most nodes of a tree, or steps of an argument, that are told one by one.
 pub const MOST_TOLD: usize = 12;
 
-// How many links are told.
-const MOST_LINKS: usize = 5;
+/// How many links are told.
+pub const MOST_LINKS: usize = 5;
 
 // The kinds of leaves, in the order in which they are told.
 const KINDS: [&str; 6] = [
@@ -103,45 +103,32 @@ impl Writer<'_> {
     }
 
     fn push_tightest(&mut self, nodes: &[Node]) -> Result<(), AllocError> {
-        let Some(found) = tightest(self.alloc, self.network, nodes)? else {
+        let Some((link, entries, load)) = tightest(self.alloc, self.network, nodes)? else {
             return Ok(());
         };
-        let frames = frames_of(self.alloc, found.entries)?;
+        let frames = frames_of(self.alloc, entries)?;
         self.say("In the tightest of these ways, on ");
-        self.push_load(found.link, &frames, found.load);
+        self.push_load(link, &frames, load);
         self.say(".\n");
         Ok(())
     }
 }
 
-/// The load of a leaf that bounds the flowspan.
-#[derive(Clone, Copy)]
-pub struct Bounding<'a> {
-    pub link: usize,
-    pub entries: &'a Entries,
-    load: Load,
-}
-
-/// The load that bounds the flowspan by the least, the first of equal ones.
+/// The load that bounds the flowspan by the least, the first of equal ones: its link, its entries, and what they come to.
 pub fn tightest<'a>(
     alloc: Global,
     network: TimedNetwork<'_>,
     nodes: &'a [Node],
-) -> Result<Option<Bounding<'a>>, AllocError> {
+) -> Result<Option<(usize, &'a Entries, Load)>, AllocError> {
     let mut path = Path::new(alloc, network);
     let mut least = i128::MAX;
     let mut found = None;
     for node in nodes {
         if let Some(LowerBound::Load(link, entries)) = bound_of(node) {
-            let link = *link;
-            let load = path.load(link, entries);
+            let load = path.load(*link, entries);
             if load.bound() < least {
                 least = load.bound();
-                found = Some(Bounding {
-                    link,
-                    entries,
-                    load,
-                });
+                found = Some((*link, entries, load));
             }
         }
         path.go_on(node);
