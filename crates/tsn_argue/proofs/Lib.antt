@@ -9,6 +9,7 @@ pub mod MotionLemmas
 pub mod OpenViews
 pub mod Ordered
 pub mod PlacingLemmas
+pub mod MoveFaults
 pub mod Refuted
 pub mod SeenLemmas
 pub mod Settling

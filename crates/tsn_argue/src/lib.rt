@@ -19,9 +19,9 @@ mod wrong;
 
 pub use fault::{ArgumentFault, Open, StepFault};
 pub use listener::{Listener, Silent};
-pub use motion::Shown;
+pub use motion::{Shown, read_first, read_second};
 pub use news::{News, turned};
-pub use uses::{Reader, Use, read_first, read_second};
+pub use uses::{Reader, Use};
 pub use verdict::{check_argument, check_certificate, hear_argument, judge_argument};
 pub use view::View;
 pub use wrong::Wrong;

@@ -1,4 +1,4 @@
-//! Whether a move may be made on a view, and what it shows.
+//! Whether a move may be made on a view, what it shows, and what it uses for that.
 ghost use Rattle.std.specs.Prelude.{◌≡◌, ◌≤◌, [], ◌∷◌, List, length, map, false, All, MatchBool};
 ghost use Rattle.tsn_model.specs.Argument.{Fact as ModelFact, IsFact, go, turn, apply, arrive, put_last, put_first, pack, round, follow, refuting, left_open};
 ghost use Rattle.tsn_cert.specs.Order.{decision_of};
@@ -12,6 +12,7 @@ ghost use Rattle.tsn_argue.specs.Motion.{facts_of, clauses_of, AreFacts, JudgesM
 
 use crate::link::{judge_choice, judge_frames, load_all, load_with, visit_of};
 use crate::news::{News, turned};
+use crate::uses::{Reader, Use};
 use crate::view::View;
 use crate::wrong::Wrong;
 use tsn_cert::{Clause, Fact, Move, Order, Placing};
@@ -341,5 +342,73 @@ fn arc_in(view: &View<'_>, decision: Decision) -> Result<Arc, Wrong>
         Ok(arc_of(view.timing, decision))
     } else {
         Err(Wrong::NoOrder(decision))
+    }
+}
+
+// ---- what a move uses of what is known
+
+/// Tells what the move uses for the first fact that it shows.
+pub fn read_first<R: Reader>(reader: &mut R, view: &View<'_>, clauses: &[&Clause], motion: &Move) {
+    match motion {
+        Move::Go(order) => {
+            reader.read(Use::order(*order));
+            reader.read(Use::Least(order.first));
+        }
+        Move::Turn(order) => {
+            reader.read(Use::Least(order.second));
+            reader.read(Use::Greatest(order.first));
+        }
+        Move::Use(number) => read_clause(reader, view, clauses, *number),
+        Move::Arrive(stream) => reader.read(Use::Least(*stream)),
+        Move::Last(placing) => {
+            reader.read(Use::Least(placing.frame.stream));
+            read_frames(reader, placing.others.list());
+        }
+        Move::First(placing) => {
+            reader.read(Use::Greatest(placing.frame.stream));
+            read_frames(reader, placing.others.list());
+        }
+        Move::Pack(_, frames) => read_frames(reader, frames.list()),
+        Move::Round(orders) => read_orders(reader, orders.list()),
+        Move::Follow(known, _) => reader.read(Use::order(*known)),
+    }
+}
+
+/// Tells what the move uses for the second fact that it shows, if it does.
+pub fn read_second<R: Reader>(reader: &mut R, motion: &Move) {
+    match motion {
+        Move::Go(order) => {
+            reader.read(Use::order(*order));
+            reader.read(Use::Greatest(order.second));
+        }
+        Move::Arrive(_) => reader.read(Use::GreatestDone),
+        _ => {}
+    }
+}
+
+// The clause, and what contradicts its facts.
+fn read_clause<R: Reader>(reader: &mut R, view: &View<'_>, clauses: &[&Clause], number: usize) {
+    reader.read(Use::Clause(number));
+    let Some(clause) = clauses.get(number) else {
+        return;
+    };
+    for fact in clause.list() {
+        let news = News::of(*fact);
+        if view.contradicts(news) {
+            reader.read(Use::against(news));
+        }
+    }
+}
+
+fn read_frames<R: Reader>(reader: &mut R, frames: &[Frame]) {
+    for frame in frames {
+        reader.read(Use::Least(frame.stream));
+        reader.read(Use::Greatest(frame.stream));
+    }
+}
+
+fn read_orders<R: Reader>(reader: &mut R, orders: &[Order]) {
+    for order in orders {
+        reader.read(Use::order(*order));
     }
 }

@@ -1,8 +1,7 @@
-//! What a move uses of what is known.
+//! Parts of what is known, as a move may use them.
 use crate::news::{News, turned};
-use crate::view::View;
-use tsn_cert::{Clause, Move, Order};
-use tsn_model::{Decision, Frame, Side};
+use tsn_cert::Order;
+use tsn_model::{Decision, Side};
 
 /// A part of what is known: a number or a decision of a view, or a clause that was shown.
 #[derive(Clone, Copy, Drop, PartialEq, Eq, PartialOrd, Ord)]
@@ -52,7 +51,7 @@ impl Use {
         }
     }
 
-    fn order(order: Order) -> Use {
+    pub(crate) fn order(order: Order) -> Use {
         Use::decided(order.decision())
     }
 }
@@ -60,70 +59,4 @@ impl Use {
 /// Is told what a move uses.
 pub trait Reader {
     fn read(&mut self, part: Use);
-}
-
-/// Tells what the move uses for the first fact that it shows.
-pub fn read_first<R: Reader>(reader: &mut R, view: &View<'_>, clauses: &[&Clause], motion: &Move) {
-    match motion {
-        Move::Go(order) => {
-            reader.read(Use::order(*order));
-            reader.read(Use::Least(order.first));
-        }
-        Move::Turn(order) => {
-            reader.read(Use::Least(order.second));
-            reader.read(Use::Greatest(order.first));
-        }
-        Move::Use(number) => read_clause(reader, view, clauses, *number),
-        Move::Arrive(stream) => reader.read(Use::Least(*stream)),
-        Move::Last(placing) => {
-            reader.read(Use::Least(placing.frame.stream));
-            read_frames(reader, placing.others.list());
-        }
-        Move::First(placing) => {
-            reader.read(Use::Greatest(placing.frame.stream));
-            read_frames(reader, placing.others.list());
-        }
-        Move::Pack(_, frames) => read_frames(reader, frames.list()),
-        Move::Round(orders) => read_orders(reader, orders.list()),
-        Move::Follow(known, _) => reader.read(Use::order(*known)),
-    }
-}
-
-/// Tells what the move uses for the second fact that it shows, if it does.
-pub fn read_second<R: Reader>(reader: &mut R, motion: &Move) {
-    match motion {
-        Move::Go(order) => {
-            reader.read(Use::order(*order));
-            reader.read(Use::Greatest(order.second));
-        }
-        Move::Arrive(_) => reader.read(Use::GreatestDone),
-        _ => {}
-    }
-}
-
-// The clause, and what contradicts its facts.
-fn read_clause<R: Reader>(reader: &mut R, view: &View<'_>, clauses: &[&Clause], number: usize) {
-    reader.read(Use::Clause(number));
-    let Some(clause) = clauses.get(number) else {
-        return;
-    };
-    for fact in clause.list() {
-        let news = News::of(*fact);
-        if view.contradicts(news) {
-            reader.read(Use::against(news));
-        }
-    }
-}
-
-fn read_frames<R: Reader>(reader: &mut R, frames: &[Frame]) {
-    for frame in frames {
-        reader.read(Use::Least(frame.stream));
-        reader.read(Use::Greatest(frame.stream));
-    }
-}
-
-fn read_orders<R: Reader>(reader: &mut R, orders: &[Order]) {
-    for order in orders {
-        reader.read(Use::order(*order));
-    }
 }
