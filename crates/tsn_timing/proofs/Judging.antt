@@ -31,9 +31,6 @@ module _ (network : Network) (offsets : List ℕ) (left right : ℕ) where
       let used = use_of network left link overlap.0.left_uses in
       (used.hop, used.counted, used.same_link)
 
-  pub first_none : (first : Option Triple) → first ≡ None → AreSoFar 0 first
-  first_none first is = subst (AreSoFar 0) (sym is) (λ k below lag overlap. omega arith)
-
   -- one hop more: on its link they are apart
   pub first_same : (n : ℕ) (first : Option Triple) → AreSoFar n first → AreApartOn network offsets left right (route_link network left n)
       → AreSoFar (n + 1) first
@@ -92,7 +89,6 @@ module _ (network : Network) (offsets : List ℕ) (left right : ℕ) where
         | inr not_less ↦ elim (before.first k other earlier overlap) [
           | inl above ↦ absurd (omega arith)
           | inr at ↦
-              let link = at.0 in
               let same : route_link network left k ≡ route_link network left n = omega arith in
               inr (sym same, found.least other (subst (λ l. IsOverlapOf network offsets left right l other) same overlap))
         ]
@@ -135,7 +131,6 @@ module _ (network : Network) (offsets : List ℕ) (left right : ℕ) where
       → MatchOption first (ArePairApart network offsets left right) (IsFirstOverlapWith network offsets left right)
   first_done n None is before = λ link lag overlap.
       let hop = at_hop link lag overlap in
-      let below = hop.1 in
       before hop.0 (omega arith) lag (subst (λ l. IsOverlapOf network offsets left right l lag) (sym hop.2) overlap)
   first_done n (Some triple) is before = record {
     same_left = before.same_left;
@@ -143,7 +138,6 @@ module _ (network : Network) (offsets : List ℕ) (left right : ℕ) where
     overlap = before.overlap;
     first = λ link lag overlap.
         let hop = at_hop link lag overlap in
-        let below = hop.1 in
         subst (λ l. ComesFirst triple l lag) hop.2
         (before.first hop.0 lag (omega arith) (subst (λ l. IsOverlapOf network offsets left right l lag) (sym hop.2) overlap));
   }
@@ -155,9 +149,9 @@ module _ (network : Network) (offsets : List ℕ) where
 
   not_earlier : (triple : Triple) (link : ℕ) (lag : ℤ) → ComesFirst triple link lag → IsEarlier triple link lag → ⊥
   not_earlier triple link lag first earlier = elim first [
-    | inl less ↦ elim earlier [ inl before ↦ omega arith | inr same ↦ let is = same.0 in omega arith ]
+    | inl less ↦ elim earlier [ inl before ↦ omega arith | inr same ↦ omega arith ]
     | inr at ↦ elim earlier [
-      | inl before ↦ let is = at.0 in omega arith
+      | inl before ↦ omega arith
       | inr same ↦ let within = at.1 in let less = same.1 in omega (arith, ints, within, less)
     ]
   ]

@@ -1,5 +1,5 @@
 -- The least number by which frames of one stream come after those of another, and what it says of overlaps.
-use Rattle.std.proofs.Common.{◌≡◌, ℕ, ◌+◌, ◌<◌, ◌≤◌, ◌⊎◌, ℤ, pos, length, get_or, refl, sym, ap, ◌∙◌, subst, arith, inl, inr}
+use Rattle.std.proofs.Common.{◌≡◌, ℕ, ◌+◌, ◌<◌, ◌≤◌, ◌⊎◌, ℤ, pos, length, get_or, sym, ap, ◌∙◌, subst, arith, inl, inr}
 use Rattle.std.specs.Prelude.{◌+ℤ◌, ◌-ℤ◌, ◌≤ℤ◌, ◌<ℤ◌}
 use Rattle.std.proofs.lemmas.Bool.{cases_lt}
 use Rattle.std.proofs.lemmas.Int.{ints, by_lt_z}
@@ -16,9 +16,6 @@ module _ (network : Network) (j first : ℕ) (above below : ℤ) where
     pub within : least ≤ℤ below
     pub reached : (least ≡ below) ⊎ IsAfter network j first above below least
     pub least_of : (m : ℕ) → m < n → above <ℤ (pos (get_or (shifts network j) m 0) -ℤ pos first) → least ≤ℤ (pos (get_or (shifts network j) m 0) -ℤ pos first)
-
-  pub after_none : IsLeastAfter 0 below
-  after_none = record { within = omega (arith, ints); reached = inl refl; least_of = λ m less. absurd (omega arith) }
 
   -- one frame more
   pub after_taken : (n : ℕ) (least lag : ℤ) → n < length (shifts network j) → lag ≡ pos (get_or (shifts network j) n 0) -ℤ pos first → above <ℤ lag
@@ -74,9 +71,6 @@ module _ (network : Network) (i j : ℕ) (above below : ℤ) where
     pub within : least ≤ℤ below
     pub reached : (least ≡ below) ⊎ IsBetween network i j above below least
     pub least_of : (k : ℕ) → k < n → (lag : ℤ) → IsAfter network j (get_or (shifts network i) k 0) above below lag → least ≤ℤ lag
-
-  pub between_none : IsLeastSoFar 0 below
-  between_none = record { within = omega (arith, ints); reached = inl refl; least_of = λ k less. absurd (omega arith) }
 
   wider : (first : ℕ) (high lag : ℤ) → high ≤ℤ below → IsAfter network j first above high lag → IsAfter network j first above below lag
   wider first high lag within after =

@@ -1,9 +1,9 @@
 -- The frames' occupancies of links, as they are gathered and put in order, and what it says that they follow one another.
-use Rattle.std.proofs.Common.{◌≡◌, ℕ, ◌+◌, ◌≤◌, ◌<◌, List, [], ◌++◌, map, length, get_or, All, AllPairs, Contains, sym, ap, ◌∙◌, subst, arith, inl, inr}
+use Rattle.std.proofs.Common.{◌≡◌, ℕ, ◌+◌, ◌≤◌, ◌<◌, List, ◌++◌, map, length, get_or, All, AllPairs, Contains, sym, ap, ◌∙◌, subst, arith, inl, inr}
 use Rattle.std.specs.List.Sorted.{IsPermutation}
 use Rattle.std.proofs.lemmas.Bool.{cases_lt, cases_order}
 use Rattle.std.proofs.lemmas.List.{get_or_default}
-use Rattle.std.proofs.lemmas.List.Elements.{All-nil, All-map, All-append, Contains-append_left, Contains-append_right}
+use Rattle.std.proofs.lemmas.List.Elements.{All-map, All-append, Contains-append_left, Contains-append_right}
 use Rattle.std.proofs.lemmas.List.Sorted.{All-permutation, Contains-permutation}
 use Rattle.tsn_model.specs.Network.{Network, stream_count, hop_count, route_link}
 use Rattle.tsn_model.specs.Timing.{occupancy, shifts, start, Sends}
@@ -44,13 +44,6 @@ module _ (network : Network) (offsets : List ℕ) where
     pub before : (j l shift : ℕ) → j < i → l < hop_count network j → Sends network j shift
         → Contains occupancies (occupancy_at network (offset_of offsets j) j l shift)
     pub here : (l shift : ℕ) → l < k → Sends network i shift → Contains occupancies (occupancy_at network (offset_of offsets i) i l shift)
-
-  pub none_so_far : AreSoFar 0 0 []
-  none_so_far = record {
-    in_order = All-nil IsInOrder;
-    before = λ j l shift below. absurd (omega arith);
-    here = λ l shift below. absurd (omega arith);
-  }
 
   pub one_hop_more : (i k : ℕ) (occupancies : List Occupancy) (first : Occupancy) → first ≡ occupancy_at network (offset_of offsets i) i k 0
       → first.begin ≤ first.end → AreSoFar i k occupancies → AreSoFar i (k + 1) (occupancies ++ map (later first) (shifts network i))
@@ -108,10 +101,9 @@ passes_on a b c order first second = elim first [
   ]
   | inr same ↦
       let link = same.0 in
-      let ends = same.1 in
       elim second [
         | inl more ↦ inl (omega arith)
-        | inr again ↦ let next = again.0 in let done = again.1 in inr (link ∙ next, omega arith)
+        | inr again ↦ let next = again.0 in inr (link ∙ next, omega arith)
       ]
 ]
 
@@ -173,12 +165,6 @@ module _ (network : Network) (offsets : List ℕ) where
       let j_frame = at_frame j j_use.hop overlaps.right in
       let i_place = are.each i i_use.hop overlaps.left (omega arith) i_use.counted overlaps.left_sent in
       let j_place = are.each j j_use.hop overlaps.right counted j_use.counted overlaps.right_sent in
-      let i_begins = i_use.same_start in
-      let j_begins = j_use.same_start in
-      let i_begun = overlaps.by_left.begun in
-      let i_ends = overlaps.by_left.not_ended in
-      let j_begun = overlaps.by_right.begun in
-      let j_ends = overlaps.by_right.not_ended in
       meet i_place.0 j_place.0 i_frame j_frame i_place.1 j_place.1 i_place.2 j_place.2
       (λ same. different i i_use.hop overlaps.left j j_use.hop overlaps.right ordered same)
       (not_before network (offset_of offsets i) (offset_of offsets j) i i_use.hop overlaps.left j j_use.hop overlaps.right triple.link overlaps.instant

@@ -53,8 +53,6 @@ module _ (network : Network) (offsets : List ℕ) (left right link first second 
       let is = between.after.is in
       let above = between.after.above in
       let below = between.after.below in
-      let first_is = bounds.first_is in
-      let second_is = bounds.second_is in
       let low_is = bounds.low_is in
       let high_is = bounds.high_is in
       let left_some = occupancy-pos network left link bounds.formed bounds.left_uses in

@@ -49,7 +49,6 @@ module _ (network : Network) (i : ℕ) where
         let parts = parts_of network i shift sent in
         let none : stream_at network i ≡ no_stream = get_or_past network.streams i no_stream past in
         let no_turn : turns_of network i ≡ 0 = ap (λ stream. stream.turns) none in
-        let some = parts.in_cycle in
         absurd (omega arith)
   ]
 
@@ -73,7 +72,6 @@ module _ (network : Network) (i : ℕ) where
   pub placed : (shift : ℕ) → 1 ≤ period_of network i → Sends network i shift → (place : ℕ) × (place < burst_of network i) × Placed shift place
   placed shift some sent =
       let parts = parts_of network i shift sent in
-      let is = parts.is in
       let begin : shift - parts.place * pace network i ≡ parts.turn * period_of network i = omega arith in
       let turn : (shift - parts.place * pace network i) / period_of network i ≡ parts.turn = ap (λ n. n / period_of network i) begin
       ∙ mul-div_cancel parts.turn (omega arith) in
@@ -92,5 +90,4 @@ pub shifts-le : (network : Network) (i : ℕ) → IsWellFormed network → i < s
 shifts-le network i formed below = λ k d inside.
     let parts = parts_of network i _ (Contains-get_or (shifts network i) k d inside) in
     let within = shift-le network formed i parts.turn parts.place below parts.in_cycle parts.in_burst in
-    let is = parts.is in
     omega arith

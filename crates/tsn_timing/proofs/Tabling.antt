@@ -10,10 +10,9 @@ right_none P = record { count = omega arith; each = λ k d below. absurd (omega 
 
 pub right_more : {X : Type 0} (P : ℕ → X → Type 0) (n : ℕ) (xs : List X) (x : X) → AreRight P n xs → P n x → AreRight P (n + 1) (xs ++ x ∷ [])
 right_more {X} P n xs x right here = record {
-  count = let long = length-append xs (x ∷ []) in let count = right.count in omega arith;
+  count = let long = length-append xs (x ∷ []) in omega arith;
   each = λ k d below. elim (cases_lt k n) [
     | inl before ↦
-        let count = right.count in
         subst (P k) (sym (get_or-append xs (x ∷ []) d k (omega arith))) (right.each k d before)
     | inr past ↦
         let is : n ≡ k = omega arith in

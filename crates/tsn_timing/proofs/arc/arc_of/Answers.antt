@@ -64,20 +64,11 @@ returns-clause-arc c =
     (arc_of network decision).weight =
     arc_weighs network ends.0 ends.1 decision.triple.link first second lag c.in-Some.ensures c.in-Some-hop_on.ensures ∙ ap (λ (a : Arc). a.weight) (sym arc) in
     let joins = arc_ends network ends.0 ends.1 decision.triple.link lag in
-    let begins = c.start.ensures.value in
-    let early = c.start.ensures.bound in
-    let lasts = c.occupancy.ensures.value in
-    let short = c.occupancy.ensures.bound in
-    let other = c.start-2.ensures.value in
-    let other_early = c.start-2.ensures.bound in
     arc_same _ _ (sym (ap (λ (a : Arc). a.from) arc ∙ joins.0)) (sym (ap (λ (a : Arc). a.to) arc ∙ joins.1))
     (let near = near_lag c in let after = near.0 in let before = near.1 in omega (arith, ints, weighs, after, before))
 
 pub returns-clause-small : goal.returns-clause-small
 returns-clause-small c =
-    let early = c.start.ensures.bound in
-    let short = c.occupancy.ensures.bound in
-    let other_early = c.start-2.ensures.bound in
     let near = near_lag c in
     let after = near.0 in
     let before = near.1 in
@@ -85,9 +76,6 @@ returns-clause-small c =
 
 pub overflow_sub-result-2 : goal.overflow_sub-result-2
 overflow_sub-result-2 c =
-    let early = c.start.ensures.bound in
-    let short = c.occupancy.ensures.bound in
-    let other_early = c.start-2.ensures.bound in
     let near = near_lag c in
     let after = near.0 in
     let before = near.1 in

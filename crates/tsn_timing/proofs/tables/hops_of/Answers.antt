@@ -26,7 +26,4 @@ loop-hop-preserved c = record {
 
 pub returns : goal.returns
 returns c =
-    let ended = c.loop-hop-test.false in
-    let last = c.loop-hop.invariant.end in
-    let done = c.loop-hop.auto.hop-end in
     subst (λ n. AreRight (IsHop c.args.network.now c.args.stream) n c.loop-hop.hops.items) (omega arith) c.loop-hop.invariant.right

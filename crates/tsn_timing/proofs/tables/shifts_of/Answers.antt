@@ -29,9 +29,6 @@ loop-turn-preserved c =
     let network = c.args.network.now in
     let i = c.args.stream in
     let turn = c.loop-turn.turn in
-    let ended = c.loop-place-test.false in
-    let last = c.loop-place.invariant.end in
-    let done = c.loop-place.auto.place-end in
     let all : c.loop-place.place ≡ burst_of network i = omega arith in
     record {
       so_far = c.loop-place.invariant.so_far ∙ ap (λ places. of_turns network i turn ++ of_turn network i places turn) all ∙ sym (turns_more network i turn);
@@ -41,18 +38,12 @@ loop-turn-preserved c =
 pub returns-clause-value : goal.returns-clause-value
 returns-clause-value c =
     let network = c.args.network.now in
-    let ended = c.loop-turn-test.false in
-    let last = c.loop-turn.invariant.end in
-    let done = c.loop-turn.auto.turn-end in
     let all : c.loop-turn.turn ≡ turns_of network c.args.stream = omega arith in
     c.loop-turn.invariant.so_far ∙ ap (of_turns network c.args.stream) all ∙ all_turns network c.args.stream
 
 pub returns-clause-bound : goal.returns-clause-bound
 returns-clause-bound c =
     let network = c.args.network.now in
-    let ended = c.loop-turn-test.false in
-    let last = c.loop-turn.invariant.end in
-    let done = c.loop-turn.auto.turn-end in
     let all : c.loop-turn.turn ≡ turns_of network c.args.stream = omega arith in
     subst (All (λ shift. shift ≤ 1018504000)) (sym (c.loop-turn.invariant.so_far ∙ ap (of_turns network c.args.stream) all ∙ all_turns network c.args.stream))
     (shifts-le network c.args.stream c.cycle-limits.ensures.well_formed c.requires)

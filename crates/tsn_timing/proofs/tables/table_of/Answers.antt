@@ -12,7 +12,6 @@ returns c = record {
   arrives = c.arrival.ensures.value;
   spans = c.span.ensures.value;
   lasts =
-      let is = c.period.ensures.value in
       let some = period-pos c.args.network.now c.args.stream c.cycle-limits.ensures.well_formed c.requires in
       omega arith;
   within = c.period.ensures.bound;

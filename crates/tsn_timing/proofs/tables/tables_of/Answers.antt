@@ -18,7 +18,4 @@ loop-stream-preserved c = record {
 
 pub returns : goal.returns
 returns c =
-    let ended = c.loop-stream-test.false in
-    let last = c.loop-stream.invariant.end in
-    let done = c.loop-stream.auto.stream-end in
     subst (λ n. AreRight (IsTable c.args.network.now) n c.loop-stream.tables.items) (omega arith) c.loop-stream.invariant.right

@@ -21,8 +21,4 @@ loop-left-preserved c = record {
 pub returns : goal.returns
 returns c =
     λ triple conflict overlaps.
-    let ended = c.loop-left-test.false in
-    let end = c.loop-left.invariant.end in
-    let ordered = conflict.ordered in
-    let counted = conflict.counted in
     c.loop-left.invariant.apart triple.left (omega arith) triple.right triple.link triple.lag (conflict, overlaps)

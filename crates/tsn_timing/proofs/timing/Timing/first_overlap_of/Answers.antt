@@ -25,7 +25,4 @@ loop-right-preserved c = record {
 pub returns : goal.returns
 returns c =
     λ right link lag overlap.
-    let ended = c.loop-right-test.false in
-    let end = c.loop-right.invariant.end in
-    let counted = overlap.0.counted in
     c.loop-right.invariant.apart right (omega arith) link lag overlap

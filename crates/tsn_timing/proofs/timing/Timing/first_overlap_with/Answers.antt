@@ -7,9 +7,6 @@ use Rattle.tsn_timing.proofs.timing.Timing.first_overlap_with.Goals.{in-Some, in
 
 pub returns : goal.returns
 returns c =
-    let ended = c.loop-hop-test.false in
-    let last = c.loop-hop.invariant.end in
-    let done = c.loop-hop.auto.hop-end in
     let all : c.loop-hop.hop ≡ hop_count c.args.self.now c.args.left = omega arith in
     first_done c.args.self.now c.args.offsets.now c.args.left c.args.right c.loop-hop.hop c.loop-hop.first all c.loop-hop.invariant.so_far
 

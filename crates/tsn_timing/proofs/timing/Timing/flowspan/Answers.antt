@@ -15,12 +15,7 @@ loop-stream-preserved c = record {
       ∙ (ap₂ max c.loop-stream.invariant.so_far (ap (λ a. offset_of c.args.offsets.now c.loop-stream.stream + a) c.arrival.ensures.value)
       ∙ sym (greatest_more (λ i. offset_of c.args.offsets.now i + arrival c.args.self.now i) [] c.loop-stream.stream));
   bound =
-      let is = c.max-last.ensures in
-      let before = c.loop-stream.invariant.bound in
-      let end = c.loop-stream.invariant.end in
-      let below = c.loop-stream-test.true in
       let small = c.requires.small c.loop-stream.stream 0 (omega arith) in
-      let soon = c.arrival.ensures.bound in
       omega arith;
   end = c.loop-stream.invariant.end;
 }
@@ -28,7 +23,4 @@ loop-stream-preserved c = record {
 pub returns-clause-value : goal.returns-clause-value
 unfolding flowspan
 returns-clause-value c =
-    let done = c.loop-stream.auto.stream-end in
-    let ended = c.loop-stream-test.false in
-    let last = c.loop-stream.invariant.end in
     c.loop-stream.invariant.so_far ∙ ap (λ n. greatest (map (λ i. offset_of c.args.offsets.now i + arrival c.args.self.now i) (range_with_len 0 n))) (omega arith)

@@ -14,11 +14,10 @@ returns-then-left-streams c =
     λ lag.
     let left = Sends-counted c.args.self.now c.args.left lag.first lag.first_sent in
     let right = Sends-counted c.args.self.now c.args.right lag.second lag.second_sent in
-    let streams = c.streams.ensures.value in
     elim c.then-left-streams.branch [
-      | then-left-streams-via-then-left-streams w ↦ let past = w.if-left-streams.true in omega arith
+      | then-left-streams-via-then-left-streams w ↦ omega arith
       | then-left-streams-via-else-left-streams+then-right-streams w ↦
-          let past = w.if-right-streams.true in let count = w.streams-else-left-streams.ensures.value in omega arith
+          omega arith
     ]
 
 pub returns-then-is_shift : goal.returns-then-is_shift
@@ -53,9 +52,7 @@ loop-first-preserved c =
           let place : n ≡ k = omega arith in
           let same : get_or c.shifts-first-items.result.now n 0 ≡ get_or (shifts network c.args.left) k 0 = (λ x. get_or (items x) (place x) 0) in
           let small = c.shifts-first-items.ensures.bound n 0 c.loop-first-test.true in
-          let left = c.period.ensures.value in
           let left_within = c.period.ensures.bound in
-          let right = c.period-else-lag-period.ensures.value in
           let right_within = c.period-else-lag-period.ensures.bound in
           let after = c.if-lag-period.false in
           let before = c.if-lag-period-2.false in

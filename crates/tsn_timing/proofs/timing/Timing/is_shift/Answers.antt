@@ -7,14 +7,10 @@ pub returns-then-stream-streams : goal.returns-then-stream-streams
 returns-then-stream-streams c =
     λ sent.
     let counted = Sends-counted c.args.self.now c.args.stream c.args.shift sent in
-    let past = c.if-stream-streams.true in
-    let streams = c.streams.ensures.value in
     omega arith
 
 pub returns-then-begin-period : goal.returns-then-begin-period
 returns-then-begin-period c =
-    let below = c.loop-place-test.true in
-    let end = c.loop-place.invariant.end in
     let in_burst : c.loop-place.place < burst_of c.args.self.now c.args.stream = omega arith in
     sent_at c.args.self.now c.args.stream c.args.shift c.loop-place.place c.period-period.result c.pace.result c.turns.result
     c.period-period.ensures.value c.pace.ensures.value c.turns.ensures.value in_burst c.if-before-shift.true c.if-begin-period-eq0.true c.if-begin-period.true
@@ -22,11 +18,6 @@ returns-then-begin-period c =
 pub returns : goal.returns
 returns c =
     λ sent.
-    let ended = c.loop-place-test.false in
-    let end = c.loop-place.invariant.end in
-    let period = c.period-period.ensures.value in
-    let some = c.period-period.ensures.some in
     let lasts : 1 ≤ period_of c.args.self.now c.args.stream = omega arith in
     let frame = placed c.args.self.now c.args.stream c.args.shift lasts sent in
-    let in_burst = frame.1 in
     c.loop-place.invariant.none frame.0 (omega arith) frame.2

@@ -26,26 +26,15 @@ returns c =
     let right = c.args.right in
     let link = route_link network left c.args.hop in
     let formed = c.cycle-limits.ensures.well_formed in
-    let left_below : left < stream_count network = let order = c.requires.order in let counted = c.requires.right in omega arith in
+    let left_below : left < stream_count network = let counted = c.requires.right in omega arith in
     let on : hop_on network right link ≡ Some c.in-Some.other = ap (hop_on network right) (sym c.route_link.ensures.value)
     ∙ (sym c.hop_on.ensures ∙ c.in-Some.is) in
     let found = hop_on_found network right link c.in-Some.other on in
     let left_start = c.start.ensures.value ∙ sym (hop_start network formed left left_below c.args.hop c.requires.hop) in
     let right_start = c.start-2.ensures.value ∙ found.2 in
     let right_occupancy = c.occupancy.ensures.value ∙ ap (occupancy network right) (hop_on_link network right link c.in-Some.other on) in
-    let left_occupancy = c.occupancy-2.ensures.value in
-    let left_early = c.start.ensures.bound in
-    let right_early = c.start-2.ensures.bound in
-    let right_short = c.occupancy.ensures.bound in
-    let left_short = c.occupancy-2.ensures.bound in
-    let right_period = c.period.ensures.value in
-    let right_within = c.period.ensures.bound in
-    let left_period = c.period-2.ensures.value in
-    let left_within = c.period-2.ensures.bound in
-    let cycle = c.cycle-limits.ensures.value in
-    let bound = c.cycle-limits.ensures.bound in
-    let left_small = c.requires.small left 0 (let count = c.requires.count in omega arith) in
-    let right_small = c.requires.small right 0 (let count = c.requires.count in let counted = c.requires.right in omega arith) in
+    let left_small = c.requires.small left 0 (omega arith) in
+    let right_small = c.requires.small right 0 (let counted = c.requires.right in omega arith) in
     judged network offsets left right link (offset_of offsets left + c.start.result) (offset_of offsets right + c.start-2.result) _ _
     (record {
       formed = formed;
@@ -55,7 +44,7 @@ returns c =
       right_uses = found.0;
       first_is = omega arith;
       second_is = omega arith;
-      low_is = let is = c.max.ensures.value in omega (arith, ints, clamps);
-      high_is = let is = c.min.ensures.value in omega (arith, ints, clamps);
+      low_is = omega (arith, ints, clamps);
+      high_is = omega (arith, ints, clamps);
     })
     c.least_lag.result c.least_lag.ensures

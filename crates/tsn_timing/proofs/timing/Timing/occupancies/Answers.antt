@@ -22,9 +22,6 @@ loop-hop-preserved c =
 pub loop-stream-preserved : goal.loop-stream-preserved
 loop-stream-preserved c =
     let network = c.args.self.now in
-    let ended = c.loop-hop-test.false in
-    let last = c.loop-hop.invariant.end in
-    let done = c.loop-hop.auto.hop-end in
     let all : c.loop-hop.hop ≡ hop_count network c.loop-stream.stream = omega arith in
     record {
       so_far = one_stream_more network c.args.offsets.now c.loop-stream.stream c.loop-hop.hop c.loop-hop.occupancies.items all c.loop-hop.invariant.so_far;
@@ -34,7 +31,5 @@ loop-stream-preserved c =
 pub returns : goal.returns
 returns c =
     let network = c.args.self.now in
-    let ended = c.loop-stream-test.false in
-    let last = c.loop-stream.invariant.end in
     let all : stream_count network ≤ c.loop-stream.stream = omega arith in
     all_so_far network c.args.offsets.now c.loop-stream.stream c.loop-stream.occupancies.items all c.loop-stream.invariant.so_far
