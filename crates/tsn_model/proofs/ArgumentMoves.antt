@@ -25,8 +25,8 @@ use Rattle.tsn_model.proofs.ArgumentLoads.{pack_sound, last_sound, first_sound}
 pub arc_within : (network : Network) (triple : Triple) (side : Side) → IsConflict network triple
     → ((arc_on network triple side).from < stream_count network) × ((arc_on network triple side).to < stream_count network)
 unfolding arc_on arc_between
-arc_within network triple Left conflict = let ordered = conflict.ordered in let counted = conflict.counted in (omega arith, omega arith)
-arc_within network triple Right conflict = let ordered = conflict.ordered in let counted = conflict.counted in (omega arith, omega arith)
+arc_within network triple Left conflict = (omega arith, omega arith)
+arc_within network triple Right conflict = (omega arith, omega arith)
 
 module _ (network : Network) (offsets : List ℕ) where
   abbrev AreSo : List Fact → Type 0

@@ -35,10 +35,10 @@ module _ (network : Network) where
   IsBounded-learned view (order decision) bounded =
       record { low = bounded.low; high = bounded.high; done_low = bounded.done_low; done_high = bounded.done_high }
   IsBounded-learned view (done_from v) bounded =
-      let done_low : pos 0 ≤ℤ int_max v view.done_low = let old = bounded.done_low in omega (arith, ints, clamps) in
+      let done_low : pos 0 ≤ℤ int_max v view.done_low = omega (arith, ints, clamps) in
       record { low = bounded.low; high = bounded.high; done_low = done_low; done_high = bounded.done_high }
   IsBounded-learned view (done_until v) bounded =
-      let done_high : int_min v view.done_high ≤ℤ pos network.cycle = let old = bounded.done_high in omega (arith, ints, clamps) in
+      let done_high : int_min v view.done_high ≤ℤ pos network.cycle = omega (arith, ints, clamps) in
       record { low = bounded.low; high = bounded.high; done_low = bounded.done_low; done_high = done_high }
 
   pub IsBounded-settled : (goal : Goal) (view : View) → IsBounded network view → IsBounded network (settled network goal view)

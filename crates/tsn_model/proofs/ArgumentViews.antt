@@ -27,20 +27,20 @@ module _ (network : Network) (offsets : List ℕ) where
   unfolding learned
   Fits-learned view (from i v) so fits =
       let low = each-set (λ j x. j < stream_count network → x ≤ℤ pos (offset_of offsets j)) view.low i (int_max v (low_at view i))
-      (λ below. let new = so.1 in let old = fits.low i below in omega (arith, ints, clamps)) fits.low in
+      (λ below. let old = fits.low i below in omega (arith, ints, clamps)) fits.low in
       record { low = low; high = fits.high; orders = fits.orders; done_low = fits.done_low; done_high = fits.done_high }
   Fits-learned view (until i v) so fits =
       let high = each-set (λ j x. j < stream_count network → pos (offset_of offsets j) ≤ℤ x) view.high i (int_min v (high_at view i))
-      (λ below. let new = so.1 in let old = fits.high i below in omega (arith, ints, clamps)) fits.high in
+      (λ below. let old = fits.high i below in omega (arith, ints, clamps)) fits.high in
       record { low = fits.low; high = high; orders = fits.orders; done_low = fits.done_low; done_high = fits.done_high }
   Fits-learned view (order decision) so fits =
       let orders = All-push (λ d. IsSo network offsets (order d)) view.orders decision fits.orders so in
       record { low = fits.low; high = fits.high; orders = orders; done_low = fits.done_low; done_high = fits.done_high }
   Fits-learned view (done_from v) so fits =
-      let done_low : int_max v view.done_low ≤ℤ pos (flowspan network offsets) = let new = so.1 in let old = fits.done_low in omega (arith, ints, clamps) in
+      let done_low : int_max v view.done_low ≤ℤ pos (flowspan network offsets) = omega (arith, ints, clamps) in
       record { low = fits.low; high = fits.high; orders = fits.orders; done_low = done_low; done_high = fits.done_high }
   Fits-learned view (done_until v) so fits =
-      let done_high : pos (flowspan network offsets) ≤ℤ int_min v view.done_high = let new = so.1 in let old = fits.done_high in omega (arith, ints, clamps) in
+      let done_high : pos (flowspan network offsets) ≤ℤ int_min v view.done_high = omega (arith, ints, clamps) in
       record { low = fits.low; high = fits.high; orders = fits.orders; done_low = fits.done_low; done_high = done_high }
 
   pub Fits-learned_all : (view : View) (facts : List Fact) → All (IsSo network offsets) facts → Fits network offsets view

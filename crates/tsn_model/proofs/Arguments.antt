@@ -27,7 +27,7 @@ not_after_parts o p offsets plan (inl same) =
     (omega arith, λ is. inl rest)
 not_after_parts o p offsets plan (inr before) = elim (before_parts o p offsets plan before.0 before.1 before.2 before.3 before.4) [
   | inl less ↦ (omega arith, λ is. absurd (omega arith))
-  | inr later ↦ let same = later.0 in (omega arith, λ is. inr later.1)
+  | inr later ↦ (omega arith, λ is. inr later.1)
 ]
 
 -- each is at most the plan's as long as those before it can't be less
@@ -95,7 +95,6 @@ module _ (network : Network) (formed : IsWellFormed network) (goal : Goal) (offs
   Fits-settled (goal_first plan) asked view fits =
       cond_both (int_le (pos (flowspan network plan)) view.done_low) (record view { high = capped plan view.low view.high }) view (Fits network offsets)
       (λ known.
-      let many = asked.valid.count in
       let least_done = int_le-true (pos (flowspan network plan)) view.done_low known in
       let done = fits.done_low in
       elim asked.against [
@@ -159,12 +158,12 @@ module _ (network : Network) (formed : IsWellFormed network) (goal : Goal) (offs
     ground = Fits-settled goal asked (learned known.ground fact) (Fits-learned network offsets known.ground fact (only_so fact some) knows.ground);
     clauses = All-push (SomeIsSo network offsets) known.clauses (fact ∷ []) knows.clauses some;
   }
-  Knows-with asked known knows view (fact ∷ []) (inr empty) = let none = empty.0 in absurd (cc)
+  Knows-with asked known knows view (fact ∷ []) (inr empty) = absurd (cc)
   Knows-with asked known knows view (fact ∷ other ∷ facts) (inl some) = record {
     ground = knows.ground;
     clauses = All-push (SomeIsSo network offsets) known.clauses (fact ∷ other ∷ facts) knows.clauses some;
   }
-  Knows-with asked known knows view (fact ∷ other ∷ facts) (inr empty) = let none = empty.0 in absurd (cc)
+  Knows-with asked known knows view (fact ∷ other ∷ facts) (inr empty) = absurd (cc)
 
   -- what is known after a right step holds of each schedule in question
   Knows-after : IsInQuestion network goal offsets → (known : Known) → Knows known → (step : Step) → IsRight network known step
@@ -199,8 +198,6 @@ plan_alone network plan offsets asked view fits alone = elim asked.against [
   | inr even ↦ elim even.1 [
     | inl same ↦ same
     | inr before ↦
-        let many = asked.valid.count in
-        let inside = before.1 in
         let counted : before.0 < stream_count network = omega arith in
         let low = fits.low before.0 counted in
         let least_plan = alone.1 before.0 counted in

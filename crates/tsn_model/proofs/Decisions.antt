@@ -14,7 +14,7 @@ use Rattle.tsn_model.specs.Certificate.{decided}
 -- the arc of a decision on a conflict comes from a stream that is there
 pub arc_on-counted : (network : Network) (triple : Triple) (side : Side) → IsConflict network triple → (arc_on network triple side).from < stream_count network
 unfolding arc_on arc_between
-arc_on-counted network triple Left conflict = let ordered = conflict.ordered in let counted = conflict.counted in omega arith
+arc_on-counted network triple Left conflict = omega arith
 arc_on-counted network triple Right conflict = conflict.counted
 
 pub length-arcs_of : (network : Network) (path : List Decision) → length (arcs_of network path) ≡ length path

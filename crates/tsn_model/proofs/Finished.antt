@@ -124,7 +124,6 @@ module _ (network : Network) (history : List Settlement) where
       kept_stays before rest legal parts offsets was (λ o. (best_bound network history < bound) ⊎ ((bound ≡ best_bound network history) × ShowsAfter network path chains o))
       (λ o. inl (omega arith)) plan keeps
   stays_no_better before rest legal parts path bound chains fallen (Some offsets) was (inr even) plan keeps =
-      let bounded = even.0 in
       elim (cases_lt (best_bound network history) (best_bound network before)) [
         | inl less ↦
             kept_stays before rest legal parts offsets was (λ o. (best_bound network history < bound) ⊎ ((bound ≡ best_bound network history) × ShowsAfter network path chains o))
@@ -149,7 +148,7 @@ module _ (network : Network) (history : List Settlement) where
       → IsSomeAnd earlier (λ offsets. (best_bound network before < bound) ⊎ ((bound ≡ best_bound network before) × ShowsAfter network path chains offsets)) → best_bound network before ≤ bound
   best-le-tied before path bound chains None shown = absurd shown
   best-le-tied before path bound chains (Some offsets) (inl worse) = omega arith
-  best-le-tied before path bound chains (Some offsets) (inr even) = let same = even.0 in omega arith
+  best-le-tied before path bound chains (Some offsets) (inr even) = omega arith
 
   -- a settlement's node is right for what is kept in the end
   backed : IsLegal network history → (before rest : List Settlement) → history ≡ before ++ rest → (path : List Decision) (outcome : Outcome)

@@ -20,7 +20,7 @@ first_less : (xs ys : List ℕ) (k : ℕ) → ((i : ℕ) → i < k → offset_of
 first_less xs ys zero low = inr (λ i below. absurd (omega arith))
 first_less xs ys (suc k) low =
     elim (first_less xs ys k (λ i below. low i (omega arith))) [
-      | inl found ↦ let inside = found.1 in inl (found.0, omega arith, found.2, found.3)
+      | inl found ↦ inl (found.0, omega arith, found.2, found.3)
       | inr same ↦ elim (cases_lt (offset_of xs k) (offset_of ys k)) [
         | inl less ↦ inl (k, omega arith, same, less)
         | inr not_less ↦
@@ -41,10 +41,8 @@ module _ (network : Network) (formed : IsWellFormed network) (plan : List ℕ) (
 
   not_before_at : (k : ℕ) → k < stream_count network → ((i : ℕ) → i < k → offset_of plan i ≤ offset_of offsets i) → offset_of plan k < offset_of offsets k → ComesBefore plan offsets
   not_before_at k below low less =
-      let many = planned.count in
-      let as_many = valid.count in
       elim (first_less plan offsets k low) [
-        | inl found ↦ let inside = found.1 in before_at plan offsets found.0 (omega arith) (omega arith) found.2 found.3
+        | inl found ↦ before_at plan offsets found.0 (omega arith) (omega arith) found.2 found.3
         | inr same ↦ before_at plan offsets k (omega arith) (omega arith) same less
       ]
 
@@ -53,7 +51,7 @@ module _ (network : Network) (formed : IsWellFormed network) (plan : List ℕ) (
       let many = planned.count in
       let as_many = valid.count in
       elim (first_less plan offsets (stream_count network) low) [
-        | inl found ↦ let inside = found.1 in inr (before_at plan offsets found.0 (omega arith) (omega arith) found.2 found.3)
+        | inl found ↦ inr (before_at plan offsets found.0 (omega arith) (omega arith) found.2 found.3)
         | inr same ↦ inl (ext_get_or 0 plan offsets (many ∙ sym as_many) (λ i below. same i (omega arith)))
       ]
 
@@ -64,7 +62,6 @@ module _ (network : Network) (formed : IsWellFormed network) (plan : List ℕ) (
         let leads = are k past.1 in
         let low = λ (i : ℕ) (below : i < k).
         let sum = past.2 i below in
-        let in_chains = past.1 in
         let offset = sum-below network formed offsets valid path held (chain_at chains i) i (are i (omega arith)) in
         let is : offset_of plan i ≤ offset_of offsets i = omega (arith, ints, sum, offset) in
         is in
@@ -72,7 +69,6 @@ module _ (network : Network) (formed : IsWellFormed network) (plan : List ℕ) (
         let above = past.3 in
         inr (not_before_at k leads.stream low (omega (arith, ints, here, above)))
     after_sound chains are (inr whole) =
-        let many = whole.0 in
         not_before (λ i below.
         let sum = whole.1 i below in
         let offset = sum-below network formed offsets valid path held (chain_at chains i) i (are i (omega arith)) in

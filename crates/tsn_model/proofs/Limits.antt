@@ -124,13 +124,11 @@ module _ (network : Network) (formed : IsWellFormed network) where
 
   pub period-le : (i : ℕ) → period_of network i ≤ 1000000000
   period-le i =
-      let short = formed.short_cycle in
       let within = period-le-cycle network i in
       omega arith
 
   pub turn-le : (i turn : ℕ) → turn < turns_of network i → turn * period_of network i ≤ 1000000000
   turn-le i turn below =
-      let short = formed.short_cycle in
       let whole = turns-mul-le network i in
       let part = part_below turn (turns_of network i) (period_of network i) below in
       omega arith

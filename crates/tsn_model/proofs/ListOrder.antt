@@ -77,8 +77,6 @@ not_after_then xs ys zs (inr first) (inr second) = inr (before_then xs ys zs fir
 
 before_more : (x y : ℕ) (xs ys : List ℕ) → x ≡ y → ComesBefore xs ys → ComesBefore (x ∷ xs) (y ∷ ys)
 before_more x y xs ys same before =
-    let in_first = before.1 in
-    let in_second = before.2 in
     (suc before.0, omega arith, omega arith, (λ i. same i ∷ before.3 i), before.4)
 
 heads_of : (x y : ℕ) (xs ys : List ℕ) → x ∷ xs ≡ y ∷ ys → (x ≡ y) × (xs ≡ ys)
@@ -106,8 +104,8 @@ comes_before-true (x ∷ xs) (y ∷ ys) known =
 
 pub before_is_true : (xs ys : List ℕ) → ComesBefore xs ys → comes_before xs ys ≡ true
 unfolding comes_before
-before_is_true [] ys before = let inside = before.1 in absurd (omega arith)
-before_is_true (x ∷ xs) [] before = let inside = before.2 in absurd (omega arith)
+before_is_true [] ys before = absurd (omega arith)
+before_is_true (x ∷ xs) [] before = absurd (omega arith)
 before_is_true (x ∷ xs) (y ∷ ys) before =
     elim (before_parts x y xs ys before.0 before.1 before.2 before.3 before.4) [
       | inl less ↦ or_left (nat_lt x y) (nat_eq x y && comes_before xs ys) (lt-ltb x y less)

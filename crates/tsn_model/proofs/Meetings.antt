@@ -33,8 +33,6 @@ module _ (network : Network) (offsets : List ℕ) (i j link first second time : 
       → (turn place begin : ℕ) → turn < turns_of network i → place < burst_of network i → begin ≡ first + (turn * period_of network i + place * pace network i)
       → Hits network j link second begin time → Meet network offsets i j link
   meet_from i_uses j_uses i_some j_some first_is second_is time_is turn place begin in_cycle in_burst begin_is hits =
-      let before_end = hits.hit.before_end in
-      let ends_after = hits.hit.ends_after in
       record {
         i_uses = i_uses;
         j_uses = j_uses;
@@ -59,10 +57,6 @@ module _ (network : Network) (offsets : List ℕ) (i j link first second time : 
   meet_to first_is second_is time_is meet =
       let parts = parts_of network i meet.by_i.shift meet.by_i.sent in
       let shift = parts.is in
-      let i_begun = meet.by_i.frame.begun in
-      let i_ends = meet.by_i.frame.not_ended in
-      let j_begun = meet.by_j.frame.begun in
-      let j_ends = meet.by_j.frame.not_ended in
       record {
         turn = parts.turn;
         place = parts.place;

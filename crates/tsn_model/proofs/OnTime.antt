@@ -191,7 +191,6 @@ module _ (network : Network) (formed : IsWellFormed network) (offsets : List ℕ
       → planned network offsets p ≡ planned network offsets (record p { hop = before }) + hop_delay network p.stream (route_link network p.stream before)
   unfolding planned
   planned_next p before passage next =
-      let below = passage.hop in
       let more = start-more network p.stream before (omega arith) in
       let same : start network p.stream p.hop ≡ start network p.stream (before + 1) = ap (start network p.stream) next in
       omega arith
@@ -216,13 +215,11 @@ module _ (network : Network) (formed : IsWellFormed network) (offsets : List ℕ
       let passage = started_passage p s at in
       let ready = All-contains (λ (begun : ScheduledStart). (t : ℕ) × IsReady network offsets run begun.passage t × (t ≤ begun.time)) run.scheduled _ is.ready at in
       let late = ready_from p ready.0 passage ready.1 (λ before u next early. absurd (omega arith)) in
-      let after = ready.2 in
       omega arith
   not_early (suc k) p s hop at =
       let passage = started_passage p s at in
       let ready = All-contains (λ (begun : ScheduledStart). (t : ℕ) × IsReady network offsets run begun.passage t × (t ≤ begun.time)) run.scheduled _ is.ready at in
       let late = ready_from p ready.0 passage ready.1 (λ before u next early. not_early k (record p { hop = before }) u (omega arith) early) in
-      let after = ready.2 in
       omega arith
 
   ready_not_early : (p : Passage) (t : ℕ) → IsPassage network cycles p → IsReady network offsets run p t → planned network offsets p ≤ t
@@ -371,7 +368,6 @@ module _ (network : Network) (formed : IsWellFormed network) (offsets : List ℕ
   ready_at (suc k) p hop passage earlier =
       let next : p.hop ≡ k + 1 = omega arith in
       let plan = planned_next p k passage next in
-      let below = passage.hop in
       let q : Passage = record p { hop = k } in
       let q_passage : IsPassage network cycles
       (record p { hop = k }) = record { stream = passage.stream; sent = passage.sent; cycle = passage.cycle; hop = omega arith } in
@@ -388,7 +384,6 @@ module _ (network : Network) (formed : IsWellFormed network) (offsets : List ℕ
       let is_planned : s ≡ planned network offsets q = is.once q s (planned network offsets q) at on_time in
       let some = window_some p passage in
       let same = same_window p q passage q_passage (sym same_link) (planned network offsets p) (omega arith) (omega arith) (omega arith) (omega arith) in
-      let together = same.1 in
       omega arith
 
   not_earlier : (p : Passage) → IsPassage network cycles p → OnTimeBefore (planned network offsets p) → (q : Passage) (q_ready : ℕ) → IsPassage network cycles q
@@ -405,7 +400,6 @@ module _ (network : Network) (formed : IsWellFormed network) (offsets : List ℕ
               let p_some = window_some p passage in
               let q_some = window_some q q_passage in
               let same = same_window p q passage q_passage (sym queued.same_link) (planned network offsets p) (omega arith) (omega arith) (omega arith) (omega arith) in
-              let one_stream = same.0 in
               omega arith
         ]
       ]
@@ -445,7 +439,6 @@ module _ (network : Network) (formed : IsWellFormed network) (offsets : List ℕ
       elim (started_cases run.scheduled p (planned network offsets p + 1)) [
         | inl started ↦
             let late = not_early p.hop p started.time refl started.at in
-            let before = started.before in
             let same : started.time ≡ planned network offsets p = omega arith in
             subst (StartedAt run p) same started.at
         | inr none ↦

@@ -29,7 +29,7 @@ splits_again_wrong network history path (refuted leaf) again right = again
 unmet_wrong : (network : Network) (history : List Settlement) (path : List Decision) (outcome : Outcome) → IsUnmet network history path outcome → IsRight network history path outcome → ⊥
 unmet_wrong network history path (split triple) unmet right = unmet
 unmet_wrong network history path (solved offsets bound leaf chains) unmet right = unmet
-unmet_wrong network history path (pruned bound leaf) unmet right = let low = right.1 in omega arith
+unmet_wrong network history path (pruned bound leaf) unmet right = omega arith
 unmet_wrong network history path (tied bound leaf chains) unmet right = unmet right.3
 unmet_wrong network history path (refuted leaf) unmet right = unmet
 
@@ -37,15 +37,15 @@ unmet_wrong network history path (refuted leaf) unmet right = unmet
 pub refusal_right : (network : Network) (limit : ℕ) (history : List Settlement) (event : Event) (refusal : Refusal) → IsFirstRefusal network limit history event refusal
     → length history < limit → IsAllowed network history event → ⊥
 refusal_right network limit history event (not_open place) first room allowed = first.0 allowed.is_open
-refusal_right network limit history event (limit_met count) first room allowed = let full = first.1 in omega arith
+refusal_right network limit history event (limit_met count) first room allowed = omega arith
 refusal_right network limit history event not_conflict first room allowed = splits_none_wrong network history event.path event.outcome first.2 allowed.is_right
 refusal_right network limit history event already_decided first room allowed = splits_again_wrong network history event.path event.outcome first.2 allowed.is_right
 refusal_right network limit history event (not_met number) first room allowed = unmet_wrong network history event.path event.outcome first.2 allowed.is_right
 
 outside_wrong : (network : Network) (limit : ℕ) (state : State) (step : Step) → IsOutside network state step → MayTake network limit state step → ⊥
 outside_wrong network limit state (observe k) outside may = omega arith
-outside_wrong network limit state (post k flowspan) outside may = elim outside [ inl past ↦ (let below = may.0 in omega arith) | inr unsolved ↦ unsolved may.1 ]
-outside_wrong network limit state (settle k event) outside may = elim outside [ inl past ↦ (let below = may.0 in omega arith) | inr low ↦ low may.3 ]
+outside_wrong network limit state (post k flowspan) outside may = elim outside [ inl past ↦ omega arith | inr unsolved ↦ unsolved may.1 ]
+outside_wrong network limit state (settle k event) outside may = elim outside [ inl past ↦ omega arith | inr low ↦ low may.3 ]
 
 -- an answered step is one that was taken, or one that isn't allowed and changed nothing
 pub answers_take : (network : Network) (limit : ℕ) (state : State) (step : Step) (reply : Reply) (next : State) → Answers network limit state step reply next → Takes network limit state step next
@@ -95,7 +95,6 @@ unfolding effect_of
 effect_keeps network limit state (observe k) short may = (short, length-set state.tellers k _)
 effect_keeps network limit state (post k flowspan) short may = (short, length-set state.tellers k _)
 effect_keeps network limit state (settle k event) short may =
-    let room = may.1 in
     (omega (arith, length_push state.history (record { teller = k; event = event })), refl)
 
 pub run_keeps : (network : Network) (limit : ℕ) (steps : List Step) (state last : State) → length state.history ≤ limit → Runs network limit state steps last

@@ -68,7 +68,6 @@ module _ (network : Network) (i : ℕ) where
       let whole = turns-mul-le in
       let below = part_below parts.turn (turns_of network i) (period_of network i) parts.in_cycle in
       let place = place-le parts.place parts.in_burst in
-      let is = parts.is in
       record { begin = parts.turn * period_of network i; within = omega arith; low = omega arith; high = omega arith }
 
   -- frames of one stream are apart on each link on which a period has room for them
@@ -80,8 +79,6 @@ module _ (network : Network) (i : ℕ) where
       let b = parts_of second second_sent in
       let a_place = place-le a.place a.in_burst in
       let b_place = place-le b.place b.in_burst in
-      let a_is = a.is in
-      let b_is = b.is in
       elim (cases_order a.turn b.turn) [
         | inl same ↦
             let begins : a.turn * period_of network i ≡ b.turn * period_of network i = ap (λ t. t * period_of network i) same in
@@ -131,7 +128,6 @@ module _ (network : Network) (i : ℕ) where
     | inl none ↦
         let whole = whole_cycle formed below in
         let no_time : turns_of network i * period_of network i ≡ turns_of network i * 0 = ap (λ t. turns_of network i * t) none in
-        let some = formed.some_cycle in
         absurd (omega arith)
     | inr some ↦ omega arith
   ]

@@ -158,7 +158,6 @@ too_far argued =
 too_early : Argues small_network (goal_least small_offsets) early_steps → ⊥
 unfolding early_steps known_with known_after
 too_early argued =
-    let known = argued.1.0.moves.1.0 in
     absurd (omega arith)
 
 too_long : Argues (star_network 2970) goal_none none_steps → ⊥

@@ -233,14 +233,12 @@ from_windows : (t : ℕ) → AreWindows t → InWindow twice_network small_offse
 unfolding twice_network small_offsets late_offsets burst_offsets shared shared_later stream_at octets_of turns_of period_of burst_of route_of release_of latest_of link_at occupancy pace spread shifts transfer hop_delay start arrival hop_end span greatest hop_on start_on
 from_windows t (inl sooner) =
     let begun = sooner.0 in
-    let ends = sooner.1 in
     elim (cases_lt t 2298) [
       | inl first ↦ (0, refl, record { shift = 0; sent = Contains-head 0 (10000 ∷ []); frame = record { begun = omega arith; not_ended = omega arith } })
       | inr second ↦ (1, refl, record { shift = 0; sent = Contains-head 0 []; frame = record { begun = omega arith; not_ended = omega arith } })
     ]
 from_windows t (inr later) =
     let begun = later.0 in
-    let ends = later.1 in
     (0, refl, record { shift = 10000; sent = Contains-more 0 (10000 ∷ []) 10000 (Contains-head 10000 []); frame = record { begun = omega arith; not_ended = omega arith } })
 
 -- ---- the burst

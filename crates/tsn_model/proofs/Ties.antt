@@ -51,8 +51,6 @@ module _ (network : Network) (path : List Decision) (chains : List (List ℕ)) w
       ]
   after_sooner sooner plan count (inr before) (inr whole) =
       let p : ℕ = before.0 in
-      let inside = before.2 in
-      let many = whole.0 in
       let sum = whole.1 p (omega arith) in
       let under = before.4 in
       inl (p, omega arith, (λ i below. whole.1 i (omega arith) ∙ ap pos (sym (before_same sooner plan before i below))), omega (arith, ints, sum, under))
@@ -127,9 +125,7 @@ module _ (network : Network) (path : List Decision) (chains : List (List ℕ)) (
   shown_after counted planned before =
       let n : ℕ = common offsets plan in
       let are = common_is offsets plan in
-      let in_first = are.in_first in
       let many = length-take (n + 1) chains in
-      let as_many = shows.0 in
       let sums = λ (i : ℕ) (below : i < n + 1) (in_range : i < stream_count network).
       let is : sum_on network path (chain_at shown i) i ≡ pos (offset_of offsets i) = ap (λ chain. sum_on network path chain i) (shown_at i below) ∙ shows.2 i in_range in
       is in

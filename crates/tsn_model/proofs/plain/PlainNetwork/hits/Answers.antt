@@ -3,28 +3,17 @@ use Rattle.tsn_model.proofs.Meetings.{hits_from, hits_to}
 use Rattle.tsn_model.proofs.plain.PlainNetwork.hits.Goals as goal
 
 pub returns-then-begin-start : goal.returns-then-begin-start
-returns-then-begin-start c =
-    let turn = c.loop-turn-test.true in
-    let turn_end = c.loop-turn.invariant.end in
-    let place = c.loop-place-test.true in
-    let place_end = c.loop-place.invariant.end in
-    let shift = c.shift.ensures.value in
-    let occupancy = c.occupancy-length.ensures.value in
-    let before = c.if-start-begin.true in
-    let after = c.if-begin-start.true in (
-      λ always. hits_from c.args.self.now c.args.i c.args.link c.args.first c.args.begin c.args.time c.loop-turn.turn c.loop-place.place (omega arith)
-          (omega arith)
-          (record { before_end = omega arith; ends_after = omega arith }),
-      λ hits. refl,
-    )
+returns-then-begin-start c = (
+  λ always. hits_from c.args.self.now c.args.i c.args.link c.args.first c.args.begin c.args.time c.loop-turn.turn c.loop-place.place (omega arith)
+      (omega arith)
+      (record { before_end = omega arith; ends_after = omega arith }),
+  λ hits. refl,
+)
 
 pub returns : goal.returns
-returns c =
-    let ended = c.loop-turn-test.false in
-    let turn_end = c.loop-turn.invariant.end in (
-      λ never. absurd (true≢false (sym never)),
-      λ hits.
-          let at = hits_to c.args.self.now c.args.i c.args.link c.args.first c.args.begin c.args.time hits in
-          let in_cycle = at.in_cycle in
-          absurd (c.loop-turn.invariant.none at.turn at.place (omega arith) at.in_burst at.hit),
-    )
+returns c = (
+  λ never. absurd (true≢false (sym never)),
+  λ hits.
+      let at = hits_to c.args.self.now c.args.i c.args.link c.args.first c.args.begin c.args.time hits in
+      absurd (c.loop-turn.invariant.none at.turn at.place (omega arith) at.in_burst at.hit),
+)

@@ -39,5 +39,4 @@ loop-i-preserved c =
 
 pub returns : goal.returns
 returns c =
-    let done = c.loop-i-test.false in
     c.loop-i.invariant.so_far ∙ ap (held c.args.self.now) (take_all c.loop-i.i c.args.offsets.now (omega arith))

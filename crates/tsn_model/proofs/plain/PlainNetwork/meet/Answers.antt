@@ -9,13 +9,11 @@ use Rattle.tsn_model.proofs.plain.PlainNetwork.meet.Goals as goal
 pub start-requires-clause-hop : goal.start-requires-clause-hop
 start-requires-clause-hop c =
     let left = hop_on_found c.args.self.now c.args.left c.args.link c.in-Some-Some.a (sym c.hop_on.ensures ∙ c.in-Some-Some.is-0) in
-    let below = left.1 in
     omega arith
 
 pub start-requires-2-clause-hop : goal.start-requires-2-clause-hop
 start-requires-2-clause-hop c =
     let right = hop_on_found c.args.self.now c.args.right c.args.link c.in-Some-Some.b (sym c.hop_on-2.ensures ∙ c.in-Some-Some.is-1) in
-    let below = right.1 in
     omega arith
 
 pub returns-then-hits : goal.returns-then-hits
@@ -24,12 +22,7 @@ returns-then-hits c =
     let left = hop_on_found c.args.self.now c.args.left c.args.link c.in-Some-Some.a (sym c.hop_on.ensures ∙ c.in-Some-Some.is-0) in
     let right = hop_on_found c.args.self.now c.args.right c.args.link c.in-Some-Some.b (sym c.hop_on-2.ensures ∙ c.in-Some-Some.is-1) in
     let left_start = c.start.ensures.value ∙ left.2 in
-    let right_start = c.start-2.ensures.value ∙ right.2 in
-    let turn = c.loop-turn-test.true in
-    let turn_end = c.loop-turn.invariant.end in
-    let place = c.loop-place-test.true in
-    let place_end = c.loop-place.invariant.end in
-    let shift = c.shift.ensures.value in (
+    let right_start = c.start-2.ensures.value ∙ right.2 in (
       λ always. meet_from c.args.self.now c.args.offsets.now c.args.left c.args.right c.args.link (offset_of c.args.offsets.now c.args.left + c.start.result)
           (offset_of c.args.offsets.now c.args.right + c.start-2.result) c.occupancy-time.result left.0 right.0
           (occupancy-pos c.args.self.now c.args.left c.args.link formed left.0) (occupancy-pos c.args.self.now c.args.right c.args.link formed right.0)
@@ -45,8 +38,6 @@ loop-turn-preserved c = record {
     | inl earlier ↦ c.loop-turn.invariant.none a m earlier in_burst hits
     | inr at ↦
         let is : a ≡ c.loop-turn.turn = omega arith in
-        let ended = c.loop-place-test.false in
-        let end = c.loop-place.invariant.end in
         c.loop-place.invariant.none m (omega arith) (rw is at hits)
   ];
   end = c.turns-turn-end.ensures.value;
@@ -57,14 +48,11 @@ returns c =
     let left = hop_on_found c.args.self.now c.args.left c.args.link c.in-Some-Some.a (sym c.hop_on.ensures ∙ c.in-Some-Some.is-0) in
     let right = hop_on_found c.args.self.now c.args.right c.args.link c.in-Some-Some.b (sym c.hop_on-2.ensures ∙ c.in-Some-Some.is-1) in
     let left_start = c.start.ensures.value ∙ left.2 in
-    let right_start = c.start-2.ensures.value ∙ right.2 in
-    let ended = c.loop-turn-test.false in
-    let end = c.loop-turn.invariant.end in (
+    let right_start = c.start-2.ensures.value ∙ right.2 in (
       λ never. absurd (true≢false (sym never)),
       λ meet.
           let at = meet_to c.args.self.now c.args.offsets.now c.args.left c.args.right c.args.link
           (offset_of c.args.offsets.now c.args.left + c.start.result) (offset_of c.args.offsets.now c.args.right + c.start-2.result) c.occupancy-time.result
           (omega arith) (omega arith) c.occupancy-time.ensures.value meet in
-          let in_cycle = at.in_cycle in
           absurd (c.loop-turn.invariant.none at.turn at.place (omega arith) at.in_burst at.hits),
     )

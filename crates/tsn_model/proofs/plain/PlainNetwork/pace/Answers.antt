@@ -21,9 +21,6 @@ loop-k-preserved c = record {
 pub returns : goal.returns
 unfolding pace
 returns c =
-    let done = c.loop-k.auto.k-end in
-    let ended = c.loop-k-test.false in
-    let last = c.loop-k.invariant.last in
     let all : c.loop-k.k ≡ hop_count c.args.self.now c.args.i = omega arith in
     let value : c.loop-k.pace ≡ greatest (map (occupancy c.args.self.now c.args.i) (route_of c.args.self.now c.args.i)) =
     c.loop-k.invariant.so_far ∙ ap (λ xs. greatest (map (occupancy c.args.self.now c.args.i) xs))
