@@ -48,29 +48,13 @@ pub record WalkedTo (path : List Arc) (chain : List ℕ) (k start end : ℕ) (su
   pub adds : sum ≡ chain_sum path (drop k chain)
 
 pub none_walked : (path : List Arc) (chain : List ℕ) (k end : ℕ) → k ≡ length chain → WalkedTo path chain k end end (pos 0)
-none_walked path chain k end past =
-    let nothing : [] ≡ drop k chain = sym (drop_of_length-le chain (omega arith)) in
-    let P : List ℕ → Type 0 = λ rest. Leads path end rest end in
-    record {
-      places = subst (All (λ place. place < length path)) nothing (λ i d below. absurd (omega arith));
-      leads = subst P nothing refl;
-      adds = ap (chain_sum path) nothing;
-    }
+none_walked path chain k end past = grind (arith, drop_of_length-le)
 
 -- one more arc
 pub walk_one : (path : List Arc) (chain : List ℕ) (k depth start from end : ℕ) (sum more : ℤ) → k < length chain → depth ≡ get_or chain k 0 → depth < length path
     → (arc_at path depth).to ≡ start → from ≡ (arc_at path depth).from → more ≡ sum +ℤ (arc_at path depth).weight
     → WalkedTo path chain (k + 1) start end sum → WalkedTo path chain k from end more
-walk_one path chain k depth start from end sum more below is on_path joined begins added walked =
-    let longer : depth ∷ drop (k + 1) chain ≡ drop k chain = ap (λ d. d ∷ drop (k + 1) chain) is ∙ sym (drop_more chain k 0 below) in
-    let Q : ℕ → Type 0 = λ s. Leads path s (drop (k + 1) chain) end in
-    let P : List ℕ → Type 0 = λ rest. Leads path from rest end in
-    let rest = walked.adds in
-    record {
-      places = subst (All (λ place. place < length path)) longer (All-cons (λ place. place < length path) depth (drop (k + 1) chain) on_path walked.places);
-      leads = subst P longer (sym begins, subst Q (sym joined) walked.leads);
-      adds = omega (arith, ints) ∙ ap (chain_sum path) longer;
-    }
+walk_one path chain k depth start from end sum more below is on_path joined begins added walked = grind (arith, drop_more, All-cons, ints)
 
 -- where the chain is one to the end, its next arc back ends where the walk stands
 pub walk_joins : (path : List Arc) (chain : List ℕ) (k depth start end : ℕ) (sum : ℤ) → k < length chain → depth ≡ get_or chain k 0
@@ -84,13 +68,7 @@ walk_joins path chain k depth start end sum below is walked is_chain =
 
 pub all_walked : (path : List Arc) (chain : List ℕ) (k start end : ℕ) (sum : ℤ) → k ≡ 0 → WalkedTo path chain k start end sum
     → IsChainTo path chain end × (start ≡ start_of path chain end) × (sum ≡ chain_sum path chain)
-all_walked path chain k start end sum none walked =
-    let first : WalkedTo path chain 0 start end sum = subst (λ n. WalkedTo path chain n start end sum) none walked in
-    let leads : Leads path start chain end = first.leads in (
-      record { places = first.places; leads = leads_on path start chain end leads },
-      leads_start path start chain end leads,
-      first.adds,
-    )
+all_walked path chain k start end sum none walked = grind (arith, leads_on, leads_start)
 
 -- ---- closed chains
 
@@ -104,14 +82,7 @@ last_joins path start (place ∷ next ∷ chain) end last some is leads =
 -- a closed chain is one to the stream where its last arc ends, and begins there
 pub closed_parts : (path : List Arc) (chain : List ℕ) (end last : ℕ) → last ≡ get_or chain (length chain - 1) 0 → end ≡ (arc_at path last).to → IsClosedChain path chain
     → IsChainTo path chain end × (start_of path chain end ≡ end)
-closed_parts path chain end last is joined closed =
-    let stream = closed.returns.0 in
-    let same : stream ≡ end = last_joins path stream chain stream last closed.some_arc is closed.returns.1 ∙ sym joined in
-    let P : ℕ → Type 0 = λ s. Leads path s chain s in
-    let leads : Leads path end chain end = subst P same closed.returns.1 in (
-      record { places = closed.places; leads = leads_on path end chain end leads },
-      sym (leads_start path end chain end leads),
-    )
+closed_parts path chain end last is joined closed = grind (arith, last_joins, leads_on, leads_start)
 
 -- ---- chains of the code's path
 
@@ -150,11 +121,7 @@ module _ (network : Network) (turns : List Turn) (depths chain : List ℕ) where
   pub sum_from : (i start : ℕ) (sum : ℤ) → AreTurns network turns → depths ≡ chain → start ≡ start_of (arcs turns) depths i → sum ≡ chain_sum (arcs turns) depths
       → pos (release_of network start) +ℤ sum ≡ sum_on network (decisions turns) chain i
   unfolding sum_on
-  sum_from i start sum right same begins adds =
-      let path = arcs-turns network turns right in
-      let start_same : start ≡ start_of (arcs_of network (decisions turns)) chain i = begins ∙ (λ k. start_of (path k) (same k) i) in
-      let all_same : sum ≡ chain_sum (arcs_of network (decisions turns)) chain = adds ∙ sum_same right same in
-      λ k. pos (release_of network (start_same k)) +ℤ all_same k
+  sum_from i start sum right same begins adds = grind (arith, arcs-turns, sum_same)
 
   -- a chain to a stream of the network begins at one
   pub start_counted : (i : ℕ) → AreTurns network turns → i < stream_count network → All (λ place. place < length (arcs turns)) depths → start_of (arcs turns) depths i < stream_count network

@@ -46,11 +46,11 @@ module _ (network : Network) (path : List Decision) (link : ℕ) where
   one_entry : (before : List Entry) (entry : Entry) (one other : NodeFault) → IsWrongEntry network path link before entry one
       → IsWrongEntry network path link before entry other → one ≡ other
   one_entry before entry kinds.NotSent kinds.NotSent is another = refl
-  one_entry before entry kinds.NotSent kinds.NotOnLink is (inl past) = let below = is.0 in absurd (omega arith)
+  one_entry before entry kinds.NotSent kinds.NotOnLink is (inl past) = absurd (omega arith)
   one_entry before entry kinds.NotSent kinds.NotOnLink is (inr off) = absurd (is.1 off.0)
   one_entry before entry kinds.NotSent kinds.StreamRepeated is another = absurd (is.1 another.0.sent)
   one_entry before entry kinds.NotSent kinds.ChainBroken is another = absurd (is.1 another.0.sent)
-  one_entry before entry kinds.NotOnLink kinds.NotSent (inl past) another = let below = another.0 in absurd (omega arith)
+  one_entry before entry kinds.NotOnLink kinds.NotSent (inl past) another = absurd (omega arith)
   one_entry before entry kinds.NotOnLink kinds.NotSent (inr off) another = absurd (another.1 off.0)
   one_entry before entry kinds.NotOnLink kinds.NotOnLink is another = refl
   one_entry before entry kinds.NotOnLink kinds.StreamRepeated is another = absurd (off_link network path link before entry is another.0)
@@ -169,11 +169,7 @@ module _ (network : Network) (target : ℕ) (planned : Option (List ℕ)) where
   -- a node that isn't right where it stands is no node before which others are right
   stands_blocks : (nodes : List Node) (m k : ℕ) (path : List Decision) (node : Node) → Stands network target planned nodes k path node → (IsNodeShown network target planned path node → ⊥) → k < m
       → AreRight (IsNodeShown network target planned) ([] ∷ []) (take m nodes) → ⊥
-  stands_blocks nodes m k path node stands isnt below right =
-      let found = right_there nodes m k node right below stands.there in
-      let places : path ∷ stands.waiting ≡ found.0 ∷ found.1 = sym stands.first_place ∙ found.2 in
-      let same : path ≡ found.0 = cc in
-      isnt (subst (λ p. IsNodeShown network target planned p node) (sym same) found.3)
+  stands_blocks nodes m k path node stands isnt below right = grind (arith, right_there)
 
   -- ---- what a fault of the nodes says of a place
 
@@ -200,14 +196,13 @@ module _ (network : Network) (target : ℕ) (planned : Option (List ℕ)) where
   reaches : (nodes : List Node) (kind : Kind) (k : ℕ) → Says nodes kind k → AreRight (IsNodeShown network target planned) ([] ∷ []) (take k nodes) × (k ≤ length nodes)
   unfolding Says
   reaches nodes unfinished k is =
-      let ends = is.0 in
       (subst (AreRight (IsNodeShown network target planned) ([] ∷ [])) (sym (take_all k nodes (omega arith))) is.1, omega arith)
   reaches nodes too_long k is = let below = is.0 in (is.1, omega arith)
   reaches nodes (wrong fault) k is = let below = there_below nodes k is.1 is.2.there in (is.2.right_before, omega arith)
 
   blocks : (nodes : List Node) (kind : Kind) (k m : ℕ) → Says nodes kind k → k < m → m ≤ length nodes → AreRight (IsNodeShown network target planned) ([] ∷ []) (take m nodes) → ⊥
   unfolding Says
-  blocks nodes unfinished k m is below within right = let ends = is.0 in omega arith
+  blocks nodes unfinished k m is below within right = omega arith
   blocks nodes too_long k m is below within right =
       let node = there_is nodes k is.0 in
       let found = right_there nodes m k node.0 right below node.1 in
@@ -217,56 +212,33 @@ module _ (network : Network) (target : ℕ) (planned : Option (List ℕ)) where
       stands_blocks nodes m k is.0 is.1 is.2 (node_refutes network target planned is.0 is.1 fault is.3) below right
 
   same_place : (nodes : List Node) (one other : Kind) (k m : ℕ) → Says nodes one k → Says nodes other m → k ≡ m
-  same_place nodes one other k m is is_other =
-      let reach = reaches nodes one k is in
-      let reach_other = reaches nodes other m is_other in
-      elim (cases_lt k m) [
-        | inl below ↦ absurd (blocks nodes one k m is below reach_other.1 reach_other.0)
-        | inr above ↦ elim (cases_lt m k) [
-          | inl below ↦ absurd (blocks nodes other m k is_other below reach.1 reach.0)
-          | inr past ↦ omega arith
-        ]
-      ]
+  same_place nodes one other k m is is_other = grind (arith, reaches, blocks)
 
   -- ---- of two faults at one place
 
   same_stand : (nodes : List Node) (k m : ℕ) (path other : List Decision) (node another : Node) → Stands network target planned nodes k path node → Stands network target planned nodes m other another → k ≡ m
       → (path ≡ other) × (node ≡ another)
-  same_stand nodes k m path other node another stands stands_other same =
-      let places : path ∷ stands.waiting ≡ other ∷ stands_other.waiting = sym stands.first_place ∙ ap (λ n. places_after (take n nodes)) same ∙ stands_other.first_place in
-      let there : Some node ≡ Some another = sym stands.there ∙ ap (slice_get nodes) same ∙ stands_other.there in
-      let same_path : path ≡ other = cc in
-      let same_node : node ≡ another = cc in
-      (same_path, same_node)
+  same_stand nodes k m path other node another stands stands_other same = grind arith
 
   same_kind : (nodes : List Node) (one other : Kind) (k m : ℕ) → Says nodes one k → Says nodes other m → k ≡ m → one ≡ other
   unfolding Says
   same_kind nodes unfinished unfinished k m is another same = refl
-  same_kind nodes unfinished too_long k m is another same = let ends = is.0 in let below = another.0 in absurd (omega arith)
-  same_kind nodes unfinished (wrong fault) k m is another same = let ends = is.0 in let below = there_below nodes m another.1 another.2.there in absurd (omega arith)
-  same_kind nodes too_long unfinished k m is another same = let ends = another.0 in let below = is.0 in absurd (omega arith)
+  same_kind nodes unfinished too_long k m is another same = let below = another.0 in absurd (omega arith)
+  same_kind nodes unfinished (wrong fault) k m is another same = let below = there_below nodes m another.1 another.2.there in absurd (omega arith)
+  same_kind nodes too_long unfinished k m is another same = let below = is.0 in absurd (omega arith)
   same_kind nodes too_long too_long k m is another same = refl
   same_kind nodes too_long (wrong fault) k m is another same =
       let clash : [] ≡ another.0 ∷ another.2.waiting = sym is.2 ∙ ap (λ n. places_after (take n nodes)) same ∙ another.2.first_place in
       cc
-  same_kind nodes (wrong fault) unfinished k m is another same = let ends = another.0 in let below = there_below nodes k is.1 is.2.there in absurd (omega arith)
+  same_kind nodes (wrong fault) unfinished k m is another same = let below = there_below nodes k is.1 is.2.there in absurd (omega arith)
   same_kind nodes (wrong fault) too_long k m is another same =
       let clash : [] ≡ is.0 ∷ is.2.waiting = sym another.2 ∙ ap (λ n. places_after (take n nodes)) (sym same) ∙ is.2.first_place in
       cc
-  same_kind nodes (wrong fault) (wrong other) k m is another same =
-      let both = same_stand nodes k m is.0 another.0 is.1 another.1 is.2 another.2 same in
-      ap wrong (one_node network target planned another.0 another.1 fault other
-      (subst (λ p. IsWrongNode network target planned p another.1 fault) both.0 (subst (λ n. IsWrongNode network target planned is.0 n fault) both.1 is.3))
-      another.3)
+  same_kind nodes (wrong fault) (wrong other) k m is another same = grind (arith, same_stand, one_node)
 
   one_tree : (nodes : List Node) (one other : TreeFault) → IsWrongTree network target planned nodes one → IsWrongTree network target planned nodes other
       → one ≡ other
-  one_tree nodes one other is another =
-      let first = says nodes one is in
-      let second = says nodes other another in
-      let place = same_place nodes first.0 second.0 first.1 second.1 first.3 second.3 in
-      let kind = same_kind nodes first.0 second.0 first.1 second.1 first.3 second.3 place in
-      first.2 ∙ (λ i. fault_of (kind i) (place i)) ∙ sym second.2
+  one_tree nodes one other is another = grind (arith, says, same_place, same_kind, fault_of)
 
 -- ---- of a plan and its tree
 

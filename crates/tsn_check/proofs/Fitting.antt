@@ -1,6 +1,6 @@
 -- The numbers of right plans and of accepted trees are within the limits of a file.
-use Rattle.std.proofs.Common.{◌≡◌, ◌≤◌, ◌<◌, ◌+◌, ℕ, List, [], ◌∷◌, ◌++◌, Bool, true, length, map, get_or, Option, Some, None, refl, ap, ◌∙◌, subst, arith, length-append}
-use Rattle.std.specs.Prelude.{ℤ, nat_le, ◌&&◌, All, IsSomeAnd, unsigned_abs}
+use Rattle.std.proofs.Common.{◌≡◌, ◌≤◌, ◌<◌, ◌+◌, ℕ, List, [], ◌∷◌, ◌++◌, Bool, true, length, map, get_or, Option, Some, None, refl, ◌∙◌, arith, length-append}
+use Rattle.std.specs.Prelude.{ℤ, nat_le, ◌&&◌, All, IsSomeAnd}
 use Rattle.std.proofs.lemmas.Int.{ints}
 use Rattle.std.specs.List.{list_all}
 use Rattle.std.proofs.lemmas.Bool.{and_from, le-leb}
@@ -19,13 +19,12 @@ use Rattle.tsn_model.proofs.Shifts.{period-le-cycle}
 use Rattle.tsn_model.proofs.Schedules.{flowspan-le-cycle, offsets_within}
 use Rattle.tsn_cert.specs.Json.{all_within}
 use Rattle.tsn_cert.specs.Plan.{max_time}
-use Rattle.tsn_cert.specs.Cert.{max_number, max_lag, lag_fits, frame_fits, entry_fits, leaf_fits, node_fits}
+use Rattle.tsn_cert.specs.Cert.{max_number, lag_fits, entry_fits, leaf_fits, node_fits}
 use Rattle.tsn_cert.specs.Laws.{IsInGrammar, AreInGrammar}
 use Rattle.tsn_cert.specs.declared.plan.Plan.{Plan}
 use Rattle.tsn_cert.specs.declared.plan.Plan.TheVariants as plan
 use Rattle.tsn_check.proofs.Shifts.{shift_short}
 use Rattle.tsn_check.specs.Plans.{offsets_in, IsPlanRight}
-use Rattle.tsn_check.specs.Certified.{leaf_target, tie_plan}
 use Rattle.tsn_check.specs.Limits.{RightPlansFit, CertifiedTreesFit}
 
 all_true : {X : Type 0} (test : X → Bool) (P : X → Type 0) → ((x : X) → P x → test x ≡ true) → (xs : List X) → All P xs → list_all test xs ≡ true
@@ -48,7 +47,6 @@ right_fits network plan.None formed right = refl
 right_fits network (plan.Schedule span offsets) formed right =
     let own : span ≡ flowspan network offsets = right.1 in
     let low = flowspan-le-cycle network offsets right.0 in
-    let short = formed.short_cycle in
     and_from (nat_le span max_time) (all_within max_time offsets) (le-leb span max_time (omega arith))
     (all_true (λ n. nat_le n max_time) (λ n. n ≤ network.cycle) (λ n below. le-leb n max_time (omega arith)) offsets (offsets_within network offsets right.0))
 
@@ -62,23 +60,16 @@ some_node (branch triple first second) = omega arith
 
 module _ (network : Network) (formed : IsWellFormed network) where
   stream_fits : (i : ℕ) → i < stream_count network → nat_le i max_number ≡ true
-  stream_fits i below = let few = formed.few_streams in le-leb i max_number (omega arith)
+  stream_fits i below = le-leb i max_number (omega arith)
 
   link_fits : (i link : ℕ) → UsesLink network i link → nat_le link max_number ≡ true
   link_fits i link uses =
-      let few = formed.few_links in
       let exists = UsesLink-exists network i link formed uses in
       le-leb link max_number (omega arith)
 
   -- the lag of two frames is less than a cycle
   lag_within : (i j : ℕ) (lag : ℤ) → IsLag network i j lag → lag_fits lag ≡ true
-  lag_within i j lag is =
-      let before = is.not_after in
-      let behind = is.not_before in
-      let short = formed.short_cycle in
-      let left = period-le-cycle network i in
-      let right = period-le-cycle network j in
-      le-leb (unsigned_abs lag) max_lag (omega (arith, ints))
+  lag_within i j lag is = grind (arith, period-le-cycle, le-leb, ints)
 
   module _ (path : List Decision) (low : length path ≤ max_number) where
     chain_fits : (chain : List ℕ) → All (λ place. place < length (arcs_of network path)) chain → all_within max_number chain ≡ true
@@ -95,10 +86,7 @@ module _ (network : Network) (formed : IsWellFormed network) where
         → entry_fits entry ≡ true
     one_entry_fits link entry on leads =
         let short = shift_short network entry.frame.stream entry.frame.shift formed on.sent leads.stream in
-        and_from (frame_fits entry.frame) (all_within max_number entry.chain)
-        (and_from (nat_le entry.frame.stream max_number) (nat_le entry.frame.shift max_number) (stream_fits entry.frame.stream leads.stream)
-        (le-leb entry.frame.shift max_number (omega arith)))
-        (chain_fits entry.chain leads.chain_to.places)
+        grind (arith, and_from, stream_fits, le-leb, chain_fits)
 
     entries_fit : (link : ℕ) (entries : List Entry) → All (λ entry. IsFrameOn network link entry.frame) entries
         → All (λ entry. LeadsTo network path entry.chain entry.frame.stream) entries → list_all entry_fits entries ≡ true
@@ -171,7 +159,7 @@ module _ (network : Network) (formed : IsWellFormed network) where
         and_from (nat_le triple.left max_number && nat_le triple.right max_number && nat_le triple.link max_number) (lag_fits triple.lag)
         (and_from (nat_le triple.left max_number && nat_le triple.right max_number) (nat_le triple.link max_number)
         (and_from (nat_le triple.left max_number) (nat_le triple.right max_number)
-        (let before = conflict.ordered in let counted = conflict.counted in stream_fits triple.left (omega arith)) (stream_fits triple.right conflict.counted))
+        (stream_fits triple.left (omega arith)) (stream_fits triple.right conflict.counted))
         (link_fits triple.left triple.link conflict.left_uses))
         (lag_within triple.left triple.right triple.lag conflict.lag)
     shown_fits target planned (leaf_node proof) proves has = proved_fits target proof proves (leaf_entries proof has)
@@ -207,18 +195,10 @@ module _ (network : Network) (formed : IsWellFormed network) where
 
 target_fits : (network : Network) → IsWellFormed network → (stated : Plan) → IsPlanRight network stated → target_of network (offsets_in stated) ≤ max_time
 unfolding target_of
-target_fits network formed plan.None right = let short = formed.short_cycle in omega arith
+target_fits network formed plan.None right = omega arith
 target_fits network formed (plan.Schedule span offsets) right =
     let low = flowspan-le-cycle network offsets right.0 in
-    let short = formed.short_cycle in
     omega arith
 
 pub certified_fits : CertifiedTreesFit
-certified_fits network stated cert formed certified has few =
-    let spelled : cert.nodes ≡ preorder certified.tree = certified.spelled in
-    let target = certified.target_right in
-    let low = target_fits network formed stated certified.plan_right in
-    let fits = tree_fits network formed (leaf_target network cert.format cert.target) (tie_plan cert.format (offsets_in stated)) [] certified.tree
-    certified.accepted
-    (subst AreInGrammar spelled has) (let long = ap length spelled in omega (arith, few, long)) in
-    and_from (nat_le cert.target max_time) (list_all node_fits cert.nodes) (le-leb cert.target max_time (omega arith)) (ap (list_all node_fits) spelled ∙ fits)
+certified_fits network stated cert formed certified has few = grind (arith, target_fits, tree_fits, and_from, le-leb)

@@ -1,9 +1,8 @@
 -- The conflicts that are kept, as those of the network.
-use Rattle.std.proofs.Common.{ℕ, ◌<◌, List, get_or, Contains, sym, subst, Option}
+use Rattle.std.proofs.Common.{arith, ℕ, List, Contains, sym, subst, Option}
 use Rattle.tsn_model.specs.declared.Triple.{Triple}
 use Rattle.tsn_model.specs.declared.Decision.{Decision}
-use Rattle.tsn_model.specs.declared.Arc.{Arc}
-use Rattle.tsn_model.specs.Network.{Network, stream_count}
+use Rattle.tsn_model.specs.Network.{Network}
 use Rattle.tsn_model.specs.Arcs.{arc_of}
 use Rattle.tsn_model.specs.Schedule.{IsConflict}
 use Rattle.tsn_model.specs.Certificate.{Node, split_node, leaf_node, tie_node, IsNodeShown}
@@ -22,13 +21,7 @@ conflict_kept network kept of_network triple conflict = subst (λ triples. Conta
 
 pub turns_in : (network : Network) (kept : Kept) → AreConflictsOf network kept → (turns : List Turn) → AreTurnsOf kept turns → AreTurns network turns
 unfolding arc_of
-turns_in network kept of_network turns all = λ k d below.
-    let turn = all k d below in
-    let found = get_or turns k d in
-    let same = turn.same_arc network of_network in
-    let begins : (arc_of network found.decision).from < stream_count network =
-    arc_on-counted network found.decision.triple found.decision.side (kept_conflict network kept of_network found.decision.triple turn.conflict) in
-    record { same_arc = same; begins = subst (λ (arc : Arc). arc.from < stream_count network) (sym same) begins; small = turn.small }
+turns_in network kept of_network turns all = grind (arith, arc_on-counted, kept_conflict)
 
 pub branch_of : (network : Network) (kept : Kept) → AreConflictsOf network kept → (target : ℕ) (planned : Option (List ℕ)) (path : List Decision) (node : Node) → IsNodeShown network target planned path node → IsBranchOf kept node
 branch_of network kept of_network target planned path (split_node triple) right = conflict_kept network kept of_network triple right

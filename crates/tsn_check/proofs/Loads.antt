@@ -70,11 +70,7 @@ module _ (network : Network) (path : List Decision) (link : ℕ) where
   -- ---- right entries
 
   pub no_entries : AreEntries network path link []
-  no_entries = record {
-    different = λ i j d order below. absurd (omega arith);
-    on_link = λ k d below. absurd (omega arith);
-    chains = λ k d below. absurd (omega arith);
-  }
+  no_entries = grind arith
 
   pub entries_push : (entries : List Entry) (entry : Entry) → AreEntries network path link entries → IsRightEntry network path link entries entry → AreEntries network path link (entries ++ entry ∷ [])
   entries_push entries entry are right = record {
@@ -105,21 +101,7 @@ module _ (network : Network) (path : List Decision) (link : ℕ) where
   -- more entries
   pub load_push : (entries : List Entry) (entry : Entry) (all next more : LinkLoad) → 0 < length entries → IsLoad network path link entries all → IsLoad network path link (entry ∷ []) next
       → more.head ≡ int_min all.head next.head → more.work ≡ all.work + next.work → more.tail ≡ int_min all.tail next.tail → IsLoad network path link (entries ++ entry ∷ []) more
-  load_push entries entry all next more some is_all is_next head work tail =
-      let next_head : next.head ≡ head_of network path link entry = is_next.head ∙ least-one (head_of network path link entry) in
-      let next_tail : next.tail ≡ tail_of network link entry = is_next.tail ∙ least-one (tail_of network link entry) in
-      let short = is_all.short_work in
-      let short_next = is_next.short_work in
-      record {
-        head = rw (least-map_push (head_of network path link) entries entry some) (head ∙ (λ i. int_min (is_all.head i) (next_head i)));
-        work = work ∙ (λ i. is_all.work i + is_next.work i) ∙ sym (work-push entries entry);
-        tail = rw (least-map_push (tail_of network link) entries entry some) (tail ∙ (λ i. int_min (is_all.tail i) (next_tail i)));
-        low_head = lesser (λ z. pos 0 ≤ℤ (z +ℤ pos 200000000000)) all.head next.head more.head head is_all.low_head is_next.low_head;
-        high_head = lesser (λ z. z ≤ℤ pos 200000000000) all.head next.head more.head head is_all.high_head is_next.high_head;
-        short_work = omega (arith, ints, length-append entries (entry ∷ []));
-        low_tail = lesser (λ z. pos 0 ≤ℤ (z +ℤ pos 1100000000)) all.tail next.tail more.tail tail is_all.low_tail is_next.low_tail;
-        high_tail = lesser (λ z. z ≤ℤ pos 80000000) all.tail next.tail more.tail tail is_all.high_tail is_next.high_tail;
-      }
+  load_push entries entry all next more some is_all is_next head work tail = grind (arith, least-one, least-map_push, work-push, lesser, ints, length-append)
 
   -- what a leaf with these entries shows
   pub busy_until_is : (entries : List Entry) (all : LinkLoad) → IsLoad network path link entries all → busy_until network path link entries ≡ all.head +ℤ pos all.work
@@ -138,8 +120,7 @@ module _ (network : Network) (path : List Decision) (link : ℕ) where
   load_found target entries all bound None are loaded is enough = (are, rw (load_bound_is entries all loaded ∙ sym is) enough)
   load_found target entries all bound (Some short) are loaded is low =
       let same = load_bound_is entries all loaded ∙ sym is in
-      let less = low.0 in
-      (are, λ proves. let enough = proves.1 in omega (arith, ints), low.1 ∙ ap (λ z. Bound z target) (sym same))
+      (are, λ proves. omega (arith, ints), low.1 ∙ ap (λ z. Bound z target) (sym same))
 
   -- ---- and in the code
 
@@ -157,9 +138,11 @@ module _ (network : Network) (path : List Decision) (link : ℕ) where
       → AreEntries network path link (take (k + 1) (map tree_entry entries)) × IsLoad network path link (take (k + 1) (map tree_entry entries)) more
   more_load entries k next all found more some below is are loaded right next_loaded head work tail =
       let before = take k (map tree_entry entries) in
-      let longer : take (k + 1) (map tree_entry entries) ≡ before ++ tree_entry next ∷ [] =
-      take_more (map tree_entry entries) k (tree_entry next) (omega (arith, length-map entries tree_entry))
-      ∙ ap (λ e. before ++ e ∷ []) (get_or-map tree_entry entries k next (tree_entry next) below ∙ ap tree_entry (sym is)) in
+      let longer : take (k + 1) (map tree_entry entries) ≡ before ++ tree_entry next ∷ [] = cc (
+        take_more (map tree_entry entries) k (tree_entry next)
+            (omega (arith, length-map entries tree_entry)),
+        get_or-map tree_entry entries k next (tree_entry next) below,
+      ) in
       let behind : IsRightEntry network path link before (tree_entry next) = subst (λ es. IsRightEntry network path link es (tree_entry next)) (sym (take-map tree_entry k entries)) right in
       let some_before : 0 < length before = omega (arith, length-take k (map tree_entry entries), length-map entries tree_entry) in (
         subst (AreEntries network path link) (sym longer) (entries_push before (tree_entry next) are behind),
@@ -176,10 +159,4 @@ module _ (network : Network) (path : List Decision) (link : ℕ) where
       → AreEntries network path link (take k (map tree_entry entries))
       → IsWrongEntry network path link (map tree_entry (take k entries)) (tree_entry next) fault
       → IsFirstWrong network path link (map tree_entry entries) fault
-  wrong_there entries k next fault below is right wrong = record {
-    k = k;
-    entry = tree_entry next;
-    right_before = right;
-    there = there_entry entries k next below ∙ ap (λ e. Some (tree_entry e)) (sym is);
-    wrong = subst (λ es. IsWrongEntry network path link es (tree_entry next) fault) (sym (take-map tree_entry k entries)) wrong;
-  }
+  wrong_there entries k next fault below is right wrong = grind (arith, there_entry, take-map)

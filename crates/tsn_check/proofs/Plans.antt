@@ -1,5 +1,5 @@
 -- A wrong plan isn't right, and is wrong in one way.
-use Rattle.std.proofs.Common.{◌≡◌, ℕ, List, inl, inr, sym, ap, ◌∙◌}
+use Rattle.std.proofs.Common.{◌≡◌, ℕ, List, inl, inr, sym, ◌∙◌}
 use Rattle.tsn_model.specs.Network.{Network}
 use Rattle.tsn_model.proofs.Validity.{violation_refutes, violation_once}
 use Rattle.tsn_cert.specs.declared.plan.Plan.{Plan}
@@ -20,8 +20,7 @@ claim_refutes network plan.None fault wrong right = wrong
 
 one_schedule : (network : Network) (stated : ℕ) (offsets : List ℕ) (a b : PlanFault) → IsWrongSchedule network stated offsets a
     → IsWrongSchedule network stated offsets b → a ≡ b
-one_schedule network stated offsets a b (inl one) (inl two) =
-    one.2 ∙ ap of_plan.Invalid (violation_once network offsets one.0 two.0 one.1 two.1) ∙ sym two.2
+one_schedule network stated offsets a b (inl one) (inl two) = cc (one.2, violation_once network offsets one.0 two.0 one.1 two.1, two.2)
 one_schedule network stated offsets a b (inl one) (inr two) = absurd (violation_refutes network offsets one.0 one.1 two.0)
 one_schedule network stated offsets a b (inr one) (inl two) = absurd (violation_refutes network offsets two.0 two.1 one.0)
 one_schedule network stated offsets a b (inr one) (inr two) = one.2 ∙ sym two.2

@@ -134,7 +134,6 @@ tree_refutes network target planned nodes (why.Unfinished k) fault fills =
     fault.2 (right_from_fills (IsNodeShown network target planned) ([] ∷ []) nodes fills).1
 tree_refutes network target planned nodes (why.TooLong k) fault fills =
     let parts = fills-append (IsNodeShown network target planned) ([] ∷ []) (take k nodes) (drop k nodes) (subst (Fills (IsNodeShown network target planned) ([] ∷ [])) (sym (take-append-drop k nodes)) fills) in
-    let below = fault.0 in
     let empty = filled_none network target planned (drop k nodes) (subst (λ ps. Fills (IsNodeShown network target planned) ps (drop k nodes)) fault.2 parts.1) in
     omega (arith, length-drop k nodes, ap length empty)
 tree_refutes network target planned nodes (why.Node k wrong) fault fills =

@@ -9,5 +9,4 @@ pub shift_short : (network : Network) (i shift : ℕ) → IsWellFormed network �
 shift_short network i shift formed sent counted =
     let parts = parts_of network i shift sent in
     let short = shift-le network formed i parts.turn parts.place counted parts.in_cycle parts.in_burst in
-    let is = parts.is in
     omega arith

@@ -2,7 +2,6 @@
 use Rattle.std.proofs.Common.{◌≡◌, ℕ, ◌+◌, ◌<◌, List, [], length, get_or, ◌∙◌, pos, ◌<ℤ◌, Option, Some, None, Ok, refl, inl, inr, sym, ap, subst, arith}
 use Rattle.std.specs.Prelude.{IsSomeAnd}
 use Rattle.std.proofs.lemmas.Int.{ints}
-use Rattle.std.proofs.lemmas.Bool.{cases_lt}
 use Rattle.std.proofs.lemmas.List.{get_or_default}
 use Rattle.tsn_model.specs.declared.Decision.{Decision}
 use Rattle.tsn_model.specs.Network.{Network, stream_count}
@@ -71,24 +70,10 @@ chain_there chains i chain below is = is ∙ get_or_default chains i chain [] be
 
 module _ (network : Network) (path : List Decision) (chains : List (List ℕ)) (offsets : List ℕ) where
   pub sums_more : (k : ℕ) → SumsAre network path chains offsets k → sum_on network path (chain_at chains k) k ≡ pos (offset_of offsets k) → SumsAre network path chains offsets (k + 1)
-  sums_more k same here i below = elim (cases_lt i k) [
-    | inl before ↦ same i before
-    | inr not_before ↦
-        let at : k ≡ i = omega arith in
-        subst (λ j. sum_on network path (chain_at chains j) j ≡ pos (offset_of offsets j)) at here
-  ]
+  sums_more k same here i below = grind arith
 
   -- a lesser sum at the first difference
   pub not_sooner : (k : ℕ) → k < length chains → k < stream_count network → SumsAre network path chains offsets k → sum_on network path (chain_at chains k) k <ℤ pos (offset_of offsets k)
       → ShowsAfter network path chains offsets → ⊥
-  not_sooner k inside counted same less (inl past) = elim (cases_lt past.0 k) [
-    | inl first ↦ let is = same past.0 first in let above = past.3 in omega (arith, ints, is, above)
-    | inr not_first ↦ elim (cases_lt k past.0) [
-      | inl later ↦ let is = past.2 k later in omega (arith, ints, is, less)
-      | inr not_later ↦
-          let here : past.0 ≡ k = omega arith in
-          let above : pos (offset_of offsets k) <ℤ sum_on network path (chain_at chains k) k = subst (λ i. pos (offset_of offsets i) <ℤ sum_on network path (chain_at chains i) i) here past.3 in
-          omega (arith, ints, above, less)
-    ]
-  ]
+  not_sooner k inside counted same less (inl past) = grind (arith, ints)
   not_sooner k inside counted same less (inr whole) = let is = whole.1 k counted in omega (arith, ints, is, less)

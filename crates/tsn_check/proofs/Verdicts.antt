@@ -1,5 +1,5 @@
 -- What an accepted certificate shows, and what a first fault refutes.
-use Rattle.std.proofs.Common.{◌≡◌, ◌≤◌, ℕ, List, [], ◌∷◌, inl, inr, sym, ap, ◌∙◌, subst, arith}
+use Rattle.std.proofs.Common.{◌≡◌, ◌≤◌, ℕ, List, [], ◌∷◌, inl, inr, subst, arith}
 use Rattle.tsn_model.specs.Network.{Network, IsWellFormed}
 use Rattle.tsn_model.specs.Schedule.{HasNoSchedule, target_of}
 use Rattle.tsn_model.specs.Certificate.{AcceptsBy, IsNodeShown}
@@ -64,10 +64,7 @@ none_in network formed Two plan.None accepted right accepts is = accepted_first_
 pub why_refutes : (network : Network) (plan : Plan) (cert : Cert) (fault : TreeFault) → IsWhy network plan cert fault → TreeCertifies network plan cert → ⊥
 why_refutes network plan cert fault (inl claim) certifies = claim_refutes network plan claim.0 claim.1 certifies.plan_right
 why_refutes network plan cert fault (inr (inl target)) certifies = target.1.0 certifies.target_right
-why_refutes network plan cert fault (inr (inr tree)) certifies =
-    tree_refutes network (leaf_target network cert.format cert.target) (tie_plan cert.format (offsets_in plan)) cert.nodes fault tree.2
-    (tree_filled (IsNodeShown network (leaf_target network cert.format cert.target) (tie_plan cert.format (offsets_in plan))) [] cert.nodes certifies.tree
-    certifies.spelled certifies.accepted)
+why_refutes network plan cert fault (inr (inr tree)) certifies = grind (arith, tree_refutes, tree_filled)
 
 pub first_fault_refutes : (network : Network) (plan : Plan) (cert : Cert) (fault : CheckFault) → IsFirstFault network plan cert fault → TreeCertifies network plan cert → ⊥
 first_fault_refutes network plan cert fault is certifies = why_refutes network plan cert is.0 is.1 certifies
@@ -76,18 +73,13 @@ first_fault_refutes network plan cert fault is certifies = why_refutes network p
 
 -- no flowspan of a right plan is above the limit
 pub span-small : (network : Network) (plan : Plan) → IsWellFormed network → IsPlanRight network plan → span_in plan ≤ MAX_TIME
-span-small network (plan.Schedule span offsets) formed right = let short = formed.short_cycle in let within = flowspan-le-cycle network offsets right.0 in let is = right.1 in omega arith
+span-small network (plan.Schedule span offsets) formed right = let within = flowspan-le-cycle network offsets right.0 in omega arith
 span-small network plan.None formed right = omega arith
 
 -- its claim holds, and the nodes fill the root's place
 pub checked : (network timing : Network) (plan : Plan) (cert : Cert) (target : ℕ) (nodes : List tree.Node) → timing ≡ network → IsClaim timing plan target
     → cert.target ≡ target → nodes ≡ cert.nodes → Fills (IsNodeShown timing (leaf_target timing cert.format target) (tie_plan cert.format (offsets_in plan))) ([] ∷ []) nodes → TreeCertifies network plan cert
-checked network timing plan cert target nodes same claim aimed listed fills =
-    let right = subst (λ n. IsPlanRight n plan) same claim.right in
-    let aim : cert.target ≡ target_of network (offsets_in plan) = aimed ∙ claim.aim ∙ ap (λ n. target_of n (offsets_in plan)) same in
-    let Filled : Network → ℕ → List tree.Node → Type 0 = λ n t ns. Fills (IsNodeShown n (leaf_target n cert.format t) (tie_plan cert.format (offsets_in plan))) ([] ∷ []) ns in
-    let whole : Filled network cert.target cert.nodes = subst (Filled network cert.target) listed (subst (λ t. Filled network t nodes) (sym aimed) (subst (λ n. Filled n target nodes) same fills)) in
-    certified network plan cert right aim whole
+checked network timing plan cert target nodes same claim aimed listed fills = grind (arith, certified)
 
 pub shown_optimal : (network timing : Network) (plan : Plan) (cert : Cert) (target : ℕ) → timing ≡ network → IsClaim timing plan target → TreeCertifies network plan cert
     → verdict_of cert.format plan ≡ Optimal → IsOptimalPlan network plan
@@ -109,10 +101,4 @@ pub tree_fault_first : (network timing : Network) (plan : Plan) (cert : Cert) (t
     → IsClaim timing plan target
     → cert.target ≡ target → nodes ≡ cert.nodes
     → IsWrongTree timing (leaf_target timing cert.format target) (tie_plan cert.format (offsets_in plan)) nodes fault → IsWhy network plan cert fault
-tree_fault_first network timing plan cert target nodes fault same claim aimed listed is =
-    let right = subst (λ n. IsPlanRight n plan) same claim.right in
-    let aim : cert.target ≡ target_of network (offsets_in plan) = aimed ∙ claim.aim ∙ ap (λ n. target_of n (offsets_in plan)) same in
-    let Faulty : Network → ℕ → List tree.Node → Type 0 = λ n t ns. IsWrongTree n (leaf_target n cert.format t) (tie_plan cert.format (offsets_in plan)) ns
-    fault in
-    let whole : Faulty network cert.target cert.nodes = subst (Faulty network cert.target) listed (subst (λ t. Faulty network t nodes) (sym aimed) (subst (λ n. Faulty n target nodes) same is)) in
-    inr (inr (right, aim, whole))
+tree_fault_first network timing plan cert target nodes fault same claim aimed listed is = grind arith

@@ -78,8 +78,4 @@ fault_there network target planned nodes i path node fault right here there is =
 -- the nodes end and a place is open
 pub unfinished_there : (network : Network) (target : ℕ) (planned : Option (List ℕ)) (nodes : List tree.Node) (i : ℕ) (path : List Decision) → length nodes ≤ i → AreRight (IsNodeShown network target planned) ([] ∷ []) (take i nodes)
     → places_after (take i nodes) ≡ path ∷ pending path → AreRight (IsNodeShown network target planned) ([] ∷ []) nodes × (places_after nodes ≢ [])
-unfinished_there network target planned nodes i path past right here =
-    let all : take i nodes ≡ nodes = take_all i nodes past in (
-      subst (AreRight (IsNodeShown network target planned) ([] ∷ [])) all right,
-      λ none. let clash : path ∷ pending path ≡ [] = sym here ∙ ap places_after all ∙ none in cc,
-    )
+unfinished_there network target planned nodes i path past right here = grind (arith, take_all)

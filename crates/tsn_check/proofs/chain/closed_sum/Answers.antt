@@ -1,7 +1,6 @@
-use Rattle.std.proofs.Common.{◌-◌, slice_index_or, pos, sym, ap, ◌∙◌}
+use Rattle.std.proofs.Common.{arith, ◌-◌, pos}
 use Rattle.tsn_model.specs.declared.Side.TheVariants.{Left}
 use Rattle.tsn_check.specs.declared.path.Turn.{Turn}
-use Rattle.tsn_check.specs.Turns.{arcs}
 use Rattle.tsn_check.proofs.Chains.{arc_at-arcs, closed_parts}
 use Rattle.tsn_check.proofs.chain.closed_sum.Goals as goal
 
@@ -13,16 +12,8 @@ blank = record {
 
 pub returns-in_err-walk : goal.returns-in_err-walk
 unfolding blank
-returns-in_err-walk c =
-    let last = c.at-last.result in
-    let end = (slice_index_or c.args.path.now last blank).arc.to in
-    let joined = ap (λ arc. arc.to) (sym (arc_at-arcs c.args.path.now last blank c.if-last-path.false)) in
-    rw c.from_residual.ensures (λ closed. c.in_err-walk.ensures (closed_parts (arcs c.args.path.now) c.args.chain.now end last (c.at-last.ensures ∙ ap (λ count. slice_index_or c.args.chain.now (count - 1) 0) c.len-2.ensures.count) joined closed).0)
+returns-in_err-walk c = grind (arith, blank, arc_at-arcs, closed_parts)
 
 pub returns-else-walk-end : goal.returns-else-walk-end
 unfolding blank
-returns-else-walk-end c closed =
-    let last = c.at-last.result in
-    let end = (slice_index_or c.args.path.now last blank).arc.to in
-    let joined = ap (λ arc. arc.to) (sym (arc_at-arcs c.args.path.now last blank c.if-last-path.false)) in
-    c.if-walk-end.false (c.in_ok-walk.ensures.begins ∙ (closed_parts (arcs c.args.path.now) c.args.chain.now end last (c.at-last.ensures ∙ ap (λ count. slice_index_or c.args.chain.now (count - 1) 0) c.len-2.ensures.count) joined closed).1)
+returns-else-walk-end c closed = grind (arith, blank, arc_at-arcs, closed_parts)

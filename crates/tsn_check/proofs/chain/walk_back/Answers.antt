@@ -24,23 +24,14 @@ loop-number-init c =
 
 pub returns-then-arc-walk : goal.returns-then-arc-walk
 unfolding blank
-returns-then-arc-walk c is_chain =
-    let number = c.loop-number.number - 1 in
-    let depth = c.at-depth.result in
-    let behind : c.loop-number.number ≡ number + 1 = omega arith in
-    let below : number < length c.args.chain.now = omega arith in
-    let at = arc_at-arcs c.args.path.now depth blank c.if-depth-path.false in
-    let walked = subst (λ k. WalkedTo (arcs c.args.path.now) c.args.chain.now k c.loop-number.walk.start c.args.end c.loop-number.walk.sum) behind c.loop-number.invariant.walked in
-    c.if-arc-walk.true (ap (λ arc. arc.to) (sym at) ∙ walk_joins (arcs c.args.path.now) c.args.chain.now number depth c.loop-number.walk.start c.args.end c.loop-number.walk.sum below c.at-depth.ensures walked is_chain)
+returns-then-arc-walk c is_chain = grind (arith, arc_at-arcs, blank, walk_joins)
 
 pub over-walk-requires-clause-low : goal.over-walk-requires-clause-low
 over-walk-requires-clause-low c =
-    let short = c.len-number.ensures.short in
     omega (arith, ints)
 
 pub over-walk-requires-clause-high : goal.over-walk-requires-clause-high
 over-walk-requires-clause-high c =
-    let short = c.len-number.ensures.short in
     omega (arith, ints)
 
 pub over-walk-requires-clause-small : goal.over-walk-requires-clause-small
@@ -60,7 +51,6 @@ loop-number-preserved c =
     let turn = slice_index_or c.args.path.now depth blank in
     let weighs : (arc_at (arcs c.args.path.now) depth).weight ≡ turn.arc.weight = ap (λ arc. arc.weight) at in
     let walked = subst (λ k. WalkedTo (arcs c.args.path.now) c.args.chain.now k c.loop-number.walk.start c.args.end c.loop-number.walk.sum) behind c.loop-number.invariant.walked in
-    let adds = c.over-walk.ensures.sum in
     record {
       walked = rw (c.over-walk.ensures.start) (walk_one (arcs c.args.path.now) c.args.chain.now number depth c.loop-number.walk.start turn.arc.from c.args.end c.loop-number.walk.sum _
           below c.at-depth.ensures on_path (ap (λ arc. arc.to) at ∙ c.if-arc-walk.false) (ap (λ arc. arc.from) (sym at)) (omega (arith, ints)) walked);
@@ -70,6 +60,5 @@ loop-number-preserved c =
 
 pub returns : goal.returns
 returns c =
-    let short = c.len-number.ensures.short in
     let whole = all_walked (arcs c.args.path.now) c.args.chain.now c.loop-number.number c.loop-number.walk.start c.args.end c.loop-number.walk.sum (omega arith) c.loop-number.invariant.walked in
     record { is_chain = whole.0; begins = whole.1; adds = whole.2; low = omega (arith, ints); high = omega (arith, ints) }

@@ -14,15 +14,13 @@ pub returns-then-sum-gt0 : goal.returns-then-sum-gt0
 returns-then-sum-gt0 c target =
     let adds : c.in-Some.sum ≡ chain_sum (arcs_of c.args.timing.now (decisions c.args.path.now)) c.args.chain.now =
     c.in-Some.ensures.1 ∙ sum_same c.args.timing.now c.args.path.now c.args.chain.now c.args.chain.now c.requires refl in
-    let above = c.if-sum-gt0.true in
     (closed_to c.args.timing.now c.args.path.now c.args.chain.now c.args.chain.now c.requires refl c.in-Some.ensures.0, omega (arith, ints))
 
 pub returns-else-sum-gt0 : goal.returns-else-sum-gt0
 returns-else-sum-gt0 c target =
     let adds : c.in-Some.sum ≡ chain_sum (arcs_of c.args.timing.now (decisions c.args.path.now)) c.args.chain.now =
-    c.in-Some.ensures.1 ∙ sum_same c.args.timing.now c.args.path.now c.args.chain.now c.args.chain.now c.requires refl in
-    let below = c.if-sum-gt0.false in (
+    c.in-Some.ensures.1 ∙ sum_same c.args.timing.now c.args.path.now c.args.chain.now c.args.chain.now c.requires refl in (
       closed_to c.args.timing.now c.args.path.now c.args.chain.now c.args.chain.now c.requires refl c.in-Some.ensures.0,
-      λ proves. let above = proves.1 in omega (arith, ints),
+      λ proves. omega (arith, ints),
       ap Cycle (to_z-of_z w64 c.in-Some.sum (omega (arith, ints)) ∙ adds),
     )

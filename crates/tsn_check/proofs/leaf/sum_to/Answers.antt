@@ -1,19 +1,12 @@
-use Rattle.std.proofs.Common.{◌≡◌, ◌<◌, ◌∙◌, ap, subst, sym, arith, refl, pos, ◌+ℤ◌}
+use Rattle.std.proofs.Common.{◌≡◌, arith, refl, pos, ◌+ℤ◌}
 use Rattle.std.proofs.lemmas.Int.{ints}
-use Rattle.tsn_model.specs.Network.{stream_count}
 use Rattle.tsn_model.specs.Certificate.{sum_on}
 use Rattle.tsn_check.specs.Turns.{decisions}
 use Rattle.tsn_check.proofs.Chains.{chain_to, chain_back, sum_from, start_counted}
 use Rattle.tsn_check.proofs.leaf.sum_to.Goals as goal
 
 pub release-requires : goal.release-requires
-release-requires c =
-    let network = c.args.timing.now in
-    let walk = c.in-Some.ensures in
-    let below = c.if-stream-streams.false in
-    let counted = c.streams.ensures.value in
-    subst (λ start. start < stream_count network) (sym walk.begins)
-    (start_counted network c.args.path.now c.args.chain.now c.args.chain.now c.args.stream c.requires (omega arith) walk.is_chain.places)
+release-requires c = grind (arith, start_counted)
 
 pub returns : goal.returns
 returns c =
@@ -21,14 +14,9 @@ returns c =
     let chain = c.args.chain.now in
     let walk = c.in-Some.ensures in
     let release = c.release.ensures.value in
-    let early = c.release.ensures.bound in
-    let adds : pos c.release.result +ℤ c.in-Some.walk.sum ≡ sum_on network (decisions c.args.path.now) chain c.args.stream =
-    ap (λ r. pos r +ℤ c.in-Some.walk.sum) release
-    ∙ sum_from network c.args.path.now c.args.chain.now chain c.args.stream c.in-Some.walk.start c.in-Some.walk.sum c.requires refl walk.begins walk.adds in
+    let adds : pos c.release.result +ℤ c.in-Some.walk.sum ≡ sum_on network (decisions c.args.path.now) chain c.args.stream = cc (sum_from network c.args.path.now c.args.chain.now chain c.args.stream c.in-Some.walk.start c.in-Some.walk.sum c.requires refl walk.begins walk.adds) in
     let low = walk.low in
     let high = walk.high in
-    let below = c.if-stream-streams.false in
-    let counted = c.streams.ensures.value in
     record {
       leads = record {
         stream = omega arith;

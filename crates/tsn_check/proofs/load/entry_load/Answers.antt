@@ -11,21 +11,14 @@ use Rattle.tsn_check.proofs.load.entry_load.Goals as goal
 
 pub returns-then-stream-streams : goal.returns-then-stream-streams
 returns-then-stream-streams c =
-    let past = c.if-stream-streams.true in
-    let all = c.streams.ensures.value in
     inl (omega arith)
 
 pub returns-then-not-is_shift : goal.returns-then-not-is_shift
 returns-then-not-is_shift c =
-    let below = c.if-stream-streams.false in
-    let all = c.streams.ensures.value in
     (omega arith, c.if-not-is_shift.ensures)
 
 pub returns-then-has_frame : goal.returns-then-has_frame
-returns-then-has_frame c =
-    let sent = c.if-not-is_shift.ensures in
-    let found = hop_on_found c.args.timing.now c.args.entry.now.0.stream c.args.link c.in-Some.hop (sym c.in-Some.ensures) in
-    (record { sent = sent; uses = found.0 }, repeated c.args.before.now c.args.entry.now.0 (sym c.has_frame.ensures ∙ c.if-has_frame.true))
+returns-then-has_frame c = grind (arith, hop_on_found, repeated)
 
 pub returns-in_err-sum : goal.returns-in_err-sum
 returns-in_err-sum c =

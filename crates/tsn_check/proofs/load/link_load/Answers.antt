@@ -1,13 +1,11 @@
-use Rattle.std.proofs.Common.{◌≡◌, take, map, ◌∙◌, subst, refl, arith, ℤ, pos, ◌+ℤ◌, ◌≤ℤ◌, to_z, of_z, w64}
+use Rattle.std.proofs.Common.{◌≡◌, map, ◌∙◌, subst, refl, arith, ℤ, pos, ◌+ℤ◌, ◌≤ℤ◌, to_z, of_z, w64}
 use Rattle.std.specs.Int.{int_min}
 use Rattle.std.proofs.lemmas.Int.{ints, to_z-of_z}
 use Rattle.std.proofs.lemmas.List.{length-map, length-take, take_all}
 use Rattle.std.proofs.lemmas.Result.{err_from_is_err_and}
-use Rattle.tsn_model.specs.Certificate.{AreEntries}
 use Rattle.tsn_cert.specs.Entry.{tree_entry}
 use Rattle.tsn_check.specs.Turns.{decisions}
 use Rattle.tsn_check.specs.Faults.{IsFirstWrong}
-use Rattle.tsn_check.specs.Steps.{IsLoad}
 use Rattle.tsn_check.proofs.Loads.{no_entries, start_load, more_load, wrong_there}
 use Rattle.tsn_check.proofs.load.link_load.Goals as goal
 
@@ -23,7 +21,6 @@ returns-in_err-next c =
     let network = c.args.timing.now in
     let path = decisions c.args.path.now in
     let fault = c.in_err-next.field-0.0 in
-    let below = c.loop-number-test.true in
     let wrong = wrong_there network path c.args.link c.list-list.result.now c.loop-number.number c.index-list-number.result fault (omega arith) c.index-list-number.is
     c.loop-number.invariant.right c.in_err-next.ensures in
     rw (p.1, p.2) (subst (λ es. IsFirstWrong network path c.args.link es fault) c.list-list.ensures.entries wrong)
@@ -43,7 +40,6 @@ loop-number-init c =
 
 pub loop-number-preserved : goal.loop-number-preserved
 loop-number-preserved c =
-    let below = c.loop-number-test.true in
     let all = c.loop-number.invariant.loaded in
     let next = c.in_ok-next.ensures.1 in
     let head : c.min.result ≡ int_min c.loop-number.all.head c.in_ok-next.next.head =
@@ -56,18 +52,7 @@ loop-number-preserved c =
     record { right = found.0; loaded = found.1 }
 
 pub returns : goal.returns
-returns c =
-    let network = c.args.timing.now in
-    let path = decisions c.args.path.now in
-    let past = c.loop-number-test.false in
-    let few = c.list-list.ensures.few_entries in
-    let whole : take c.loop-number.number (map tree_entry c.list-list.result.now) ≡ c.args.entries.now =
-    take_all c.loop-number.number (map tree_entry c.list-list.result.now) (omega (arith, length-map c.list-list.result.now tree_entry)) ∙ c.list-list.ensures.entries in
-    let all = c.loop-number.invariant.loaded.short_work in (
-      subst (AreEntries network path c.args.link) whole c.loop-number.invariant.right,
-      subst (λ es. IsLoad network path c.args.link es c.loop-number.all) whole c.loop-number.invariant.loaded,
-      omega (arith, length-take c.loop-number.number (map tree_entry c.list-list.result.now), length-map c.list-list.result.now tree_entry),
-    )
+returns c = grind (arith, take_all, length-map, length-take)
 
 pub returns-in_err-all : goal.returns-in_err-all
 returns-in_err-all c =

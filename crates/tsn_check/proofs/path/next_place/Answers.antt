@@ -44,16 +44,11 @@ length-decisions : (turns : List Turn) → length (decisions turns) ≡ length t
 length-decisions turns = length-map turns (λ (turn : Turn). turn.decision)
 
 last_decision : (turns : List Turn) (k : ℕ) (last : Turn) → length turns ≡ k + 1 → last ≡ get_or turns k last → last.decision ≡ get_or (decisions turns) k last.decision
-last_decision turns k last long is =
-    ap (λ (turn : Turn). turn.decision) is ∙ sym (get_or-map (λ (turn : Turn). turn.decision) turns k last last.decision (omega arith))
+last_decision turns k last long is = cc (get_or-map (λ (turn : Turn). turn.decision) turns k last last.decision (omega arith))
 
 turned_right : (turns : List Turn) (k : ℕ) (last next : Turn) → length turns ≡ k + 1 → last ≡ get_or turns k last → last.decision.side ≡ Left → next.decision ≡ record { triple = last.decision.triple; side = Right }
     → pending (decisions turns) ≡ decisions (slice_set turns k next) ∷ pending (decisions (slice_set turns k next))
-turned_right turns k last next long is left turns_right =
-    let changed : decisions (slice_set turns k next) ≡ slice_set (decisions turns) k (record { triple = last.decision.triple; side = Right }) =
-    map-set (λ (turn : Turn). turn.decision) turns k next ∙ ap (slice_set (decisions turns) k) turns_right in
-    turned (decisions turns) k last.decision (length-decisions turns ∙ long) (last_decision turns k last long is) left
-    ∙ (λ i. sym changed i ∷ pending (sym changed i))
+turned_right turns k last next long is left turns_right = grind (arith, map-set, turned, length-decisions, last_decision)
 
 turned_back : (turns : List Turn) (k : ℕ) (last : Turn) → length turns ≡ k + 1 → last ≡ get_or turns k last → last.decision.side ≡ Right → pending (decisions (take k turns)) ≡ pending (decisions turns)
 turned_back turns k last long is right =
@@ -66,36 +61,26 @@ last_conflict P turns k last all long is = rw is (all k last (omega arith))
 pub turn_to-requires : goal.turn_to-requires
 turn_to-requires c =
     let some = c.in-Some.ensures.variant.0 refl in
-    let long = c.loop-last.path.ok.0 in
     (last_conflict (IsTurnOf c.args.conflicts.now) c.loop-last.path.items (vec_len c.loop-last.path - 1) c.in-Some.last.now c.loop-last.invariant.turns (omega arith) c.in-Some.ensures.value).conflict
 
 pub returns-in-Left-clause-turns : goal.returns-in-Left-clause-turns
 returns-in-Left-clause-turns c = All-set (IsTurnOf c.args.conflicts.now) c.loop-last.path.items (vec_len c.loop-last.path - 1) c.turn_to.result c.turn_to.ensures.turn c.loop-last.invariant.turns
 
 pub returns-in-Left-clause-next : goal.returns-in-Left-clause-next
-returns-in-Left-clause-next c =
-    let some = c.in-Some.ensures.variant.0 refl in
-    let long = c.loop-last.path.ok.0 in
-    sym c.loop-last.invariant.same
-    ∙ turned_right c.loop-last.path.items (vec_len c.loop-last.path - 1) c.in-Some.last.now c.turn_to.result (omega arith) c.in-Some.ensures.value c.in-Left.is c.turn_to.ensures.decision
+returns-in-Left-clause-next c = grind (arith, turned_right)
 
 pub loop-last-preserved : goal.loop-last-preserved
 loop-last-preserved c =
     let some = c.in-Some.ensures.variant.0 refl in
-    let long = c.loop-last.path.ok.0 in
     let k : ℕ = vec_len c.loop-last.path - 1 in
     let at : c.len.result - 1 ≡ k = omega arith in
-    let shorter : c.truncate.new.self.items ≡ take k c.loop-last.path.items =
-    c.truncate.ensures.items ∙ ap (λ n. take n (slice_set c.loop-last.path.items k c.in-Some.last.now)) at ∙ take-set c.loop-last.path.items k c.in-Some.last.now in
+    let shorter : c.truncate.new.self.items ≡ take k c.loop-last.path.items = cc (take-set c.loop-last.path.items k c.in-Some.last.now) in
     record {
       turns = rw shorter (All-take (IsTurnOf c.args.conflicts.now) k c.loop-last.path.items c.loop-last.invariant.turns);
-      same = ap (λ items. pending (decisions items)) shorter
-          ∙ turned_back c.loop-last.path.items k c.in-Some.last.now (omega arith) c.in-Some.ensures.value c.in-Right.is
-          ∙ c.loop-last.invariant.same;
+      same = cc (turned_back c.loop-last.path.items k c.in-Some.last.now (omega arith) c.in-Some.ensures.value c.in-Right.is);
     }
 
 pub returns-clause-next : goal.returns-clause-next
 returns-clause-next c =
     let none : vec_len c.loop-last.path ≡ 0 = omega (arith, λ (some : 0 < vec_len c.loop-last.path). false≢true (c.in_default.ensures.variant.1 some)) in
-    let long = c.loop-last.path.ok.0 in
     sym c.loop-last.invariant.same ∙ ap (λ items. pending (decisions items)) (nil_from_length c.loop-last.path.items (omega arith)) ∙ pending-nil

@@ -1,4 +1,4 @@
-use Rattle.std.proofs.Common.{◌≡◌, ◌≤◌, ◌∙◌, subst, sym, arith, inl, pos, refl}
+use Rattle.std.proofs.Common.{◌≡◌, ◌≤◌, ◌∙◌, sym, arith, pos, refl}
 use Rattle.std.specs.Prelude.{slice_index_or}
 use Rattle.std.proofs.lemmas.Int.{ints}
 use Rattle.tsn_model.specs.Schedule.{offset_of}
@@ -9,45 +9,20 @@ use Rattle.tsn_check.proofs.Ties.{chain_there, sums_more}
 use Rattle.tsn_check.proofs.tie.comes_after.Goals as goal
 
 pub overflow_cast-offset : goal.overflow_cast-offset
-overflow_cast-offset c =
-    let counted = c.in-Ok.ensures.leads.stream in
-    let many = c.requires.valid.count in
-    let small = offsets_within c.args.timing.now c.args.offsets.now c.requires.valid c.loop-stream.stream 0 (omega (arith, counted, many)) in
-    let short = c.requires.formed.short_cycle in
-    omega (arith, ints, small, short)
+overflow_cast-offset c = grind (arith, offsets_within, ints)
 
 pub returns-then-sum-offset : goal.returns-then-sum-offset
-returns-then-sum-offset c =
-    let stream = c.loop-stream.stream in
-    let below = c.loop-stream-test.true in
-    let at = chain_there c.args.chains.now stream c.index-chains-stream.result below c.index-chains-stream.is in
-    let here : c.in-Ok.sum ≡ sum_on c.args.timing.now (decisions c.args.path.now) (chain_at c.args.chains.now stream) stream =
-    subst (λ chain. c.in-Ok.sum ≡ sum_on c.args.timing.now (decisions c.args.path.now) chain stream) at c.in-Ok.ensures.adds in
-    let above = c.if-sum-offset.true in
-    let at_offset : offset_of c.args.offsets.now stream ≡ slice_index_or c.args.offsets.now stream 0 = refl in
-    let counted = c.in-Ok.ensures.leads.stream in
-    let many = c.requires.valid.count in
-    let small : slice_index_or c.args.offsets.now stream 0 ≤ c.args.timing.now.cycle = offsets_within c.args.timing.now c.args.offsets.now c.requires.valid stream 0 (omega (arith, counted, many)) in
-    let short = c.requires.formed.short_cycle in
-    let low = c.in-Ok.ensures.low in
-    let high = c.in-Ok.ensures.high in
-    inl (stream, below, c.loop-stream.invariant, omega (arith, ints))
+returns-then-sum-offset c = grind (arith, chain_there, offsets_within, ints)
 
 pub loop-stream-preserved : goal.loop-stream-preserved
 loop-stream-preserved c =
     let stream = c.loop-stream.stream in
     let below = c.loop-stream-test.true in
     let at = chain_there c.args.chains.now stream c.index-chains-stream.result below c.index-chains-stream.is in
-    let here : c.in-Ok.sum ≡ sum_on c.args.timing.now (decisions c.args.path.now) (chain_at c.args.chains.now stream) stream =
-    subst (λ chain. c.in-Ok.sum ≡ sum_on c.args.timing.now (decisions c.args.path.now) chain stream) at c.in-Ok.ensures.adds in
-    let not_above = c.if-sum-offset.false in
-    let not_below = c.if-sum-offset-2.false in
+    let here : c.in-Ok.sum ≡ sum_on c.args.timing.now (decisions c.args.path.now) (chain_at c.args.chains.now stream) stream = rw (← at) c.in-Ok.ensures.adds in
     let at_offset : offset_of c.args.offsets.now stream ≡ slice_index_or c.args.offsets.now stream 0 = refl in
     let counted = c.in-Ok.ensures.leads.stream in
     let many = c.requires.valid.count in
     let small : slice_index_or c.args.offsets.now stream 0 ≤ c.args.timing.now.cycle = offsets_within c.args.timing.now c.args.offsets.now c.requires.valid stream 0 (omega (arith, counted, many)) in
-    let short = c.requires.formed.short_cycle in
-    let low = c.in-Ok.ensures.low in
-    let high = c.in-Ok.ensures.high in
     let same : c.in-Ok.sum ≡ pos (offset_of c.args.offsets.now stream) = omega (arith, ints) in
     sums_more c.args.timing.now (decisions c.args.path.now) c.args.chains.now c.args.offsets.now stream c.loop-stream.invariant (sym here ∙ same)

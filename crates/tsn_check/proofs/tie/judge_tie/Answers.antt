@@ -1,7 +1,6 @@
-use Rattle.std.proofs.Common.{sym, subst, inl, inr, refl}
+use Rattle.std.proofs.Common.{arith, sym, subst, inl, inr}
 use Rattle.std.proofs.lemmas.Result.{err_from_is_err_and}
 use Rattle.tsn_model.specs.Certificate.{AreChains, ShowsAfter}
-use Rattle.tsn_check.specs.Plans.{span_in}
 use Rattle.tsn_check.specs.Turns.{decisions}
 use Rattle.tsn_check.proofs.Ties.{found_chains, none_no_tie, low_no_tie, sooner_no_tie, tie_made}
 use Rattle.tsn_check.proofs.tie.judge_tie.Goals as goal
@@ -12,35 +11,13 @@ returns-in_err-short c proof target bounded judged =
     rw (p.1, p.2) (inl (rw c.in_err-short.was at judged))
 
 pub returns-in_err-all_lead : goal.returns-in_err-all_lead
-returns-in_err-all_lead c proof target bounded judged =
-    let p = err_from_is_err_and c.from_residual-in_err-all_lead.result c.from_residual-in_err-all_lead.ensures.1 in
-    let network = c.args.timing.now in
-    let path = decisions c.args.path.now in
-    let has = found_chains network path (span_in c.args.plan.now) proof c.in_ok-short.short (rw c.in_ok-short.was at judged) in
-    let is = c.in_err-all_lead.ensures in
-    rw (p.1, p.2, is.0) (inr (inl (has, λ are. is.1 (subst (AreChains network path) (sym c.list.ensures.chains) are), refl)))
+returns-in_err-all_lead c proof target bounded judged = grind (arith, err_from_is_err_and, found_chains)
 
 pub returns-in_default : goal.returns-in_default
-returns-in_default c proof target bounded judged =
-    let network = c.args.timing.now in
-    let path = decisions c.args.path.now in
-    let has = found_chains network path (span_in c.args.plan.now) proof c.in_ok-short.short (rw c.in_ok-short.was at judged) in
-    inr (inr (
-      subst (AreChains network path) c.list.ensures.chains c.in_ok-all_lead.ensures,
-      none_no_tie network path proof c.args.chains.now c.args.plan.now
-          c.in_default.is has,
-    ))
+returns-in_default c proof target bounded judged = grind (arith, found_chains, none_no_tie)
 
 pub returns-in-Some : goal.returns-in-Some
-returns-in-Some c proof target bounded judged =
-    let network = c.args.timing.now in
-    let path = decisions c.args.path.now in
-    let low = rw (c.in_ok-short.was, c.in-Some.is) at judged in
-    inr (inr (
-      subst (AreChains network path) c.list.ensures.chains c.in_ok-all_lead.ensures,
-      low_no_tie network path proof c.args.chains.now c.args.plan.now c.in-Schedule.flowspan c.in-Schedule.offsets c.in-Some.short c.in-Schedule.is
-          c.requires.plan low,
-    ))
+returns-in-Some c proof target bounded judged = grind (arith, low_no_tie)
 
 pub returns-then-comes_after : goal.returns-then-comes_after
 returns-then-comes_after c proof target bounded judged =

@@ -1,4 +1,4 @@
-use Rattle.std.proofs.Common.{◌∙◌, sym, subst, refl}
+use Rattle.std.proofs.Common.{arith, subst}
 use Rattle.std.proofs.lemmas.Bool.{false≢true}
 use Rattle.tsn_cert.specs.Leaf.{bound_leaf, leaf_of}
 use Rattle.tsn_cert.proofs.LeafLemmas.{has_bound}
@@ -17,12 +17,7 @@ returns-in-Leaf c =
     rw c.in-Leaf.is (c.is_shown.ensures c.args.claim.now.timing.now c.args.claim.now.target (offsets_in c.args.claim.now.plan.now) (decisions c.args.path.now) (leaf_of c.in-Leaf.leaf) c.judge_leaf.ensures)
 
 pub returns-else-has : goal.returns-else-has
-returns-else-has c = rw c.in-Branch.is (
-  refl,
-  λ conflict.
-      let has = c.has.ensures.1 (conflict_kept c.args.claim.now.timing.now c.args.claim.now.conflicts.now c.requires.posed.kept c.in-Branch.triple conflict) in
-      absurd (false≢true (sym c.if-has.false ∙ has)),
-)
+returns-else-has c = grind (arith, conflict_kept, false≢true)
 
 pub judge_bound-found-requires-clause-target : goal.judge_bound-found-requires-clause-target
 judge_bound-found-requires-clause-target c = rw c.span_of.ensures (span-small c.args.claim.now.timing.now c.args.claim.now.plan.now c.requires.posed.kept.formed c.requires.posed.right)

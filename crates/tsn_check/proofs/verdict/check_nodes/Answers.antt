@@ -1,11 +1,9 @@
-use Rattle.std.proofs.Common.{◌≡◌, ◌⊎◌, ◌+◌, [], ◌∷◌, map, ap, ◌∙◌, subst}
-use Rattle.std.specs.Prelude.{OnOk, IfErr, min}
+use Rattle.std.proofs.Common.{arith, ◌≡◌, ◌+◌, [], ◌∷◌, map, ap, ◌∙◌, subst}
+use Rattle.std.specs.Prelude.{OnOk, min}
 use Rattle.tsn_model.specs.Certificate.{beyond, IsNodeShown}
 use Rattle.tsn_model.specs.Places.{Fills}
 use Rattle.tsn_cert.specs.Node.{tree_node}
 use Rattle.tsn_check.specs.Plans.{offsets_in}
-use Rattle.tsn_check.specs.Faults.{IsWrongTree}
-use Rattle.tsn_check.specs.declared.why.TreeFault.TheVariants.{Memory}
 use Rattle.tsn_check.proofs.verdict.check_nodes.Goals as goal
 
 pub returns-in-One-clause-ok : goal.returns-in-One-clause-ok
@@ -19,8 +17,4 @@ returns-in-Two-clause-ok c =
 
 pub returns-in-Two-clause-err : goal.returns-in-Two-clause-err
 unfolding beyond
-returns-in-Two-clause-err c =
-    let worse : c.min-target.result ≡ beyond c.args.claim.now.timing.now c.args.claim.now.target = c.min-target.ensures ∙ ap (λ n. min (c.args.claim.now.target + 1) (n + 1)) c.cycle.ensures.value in
-    rw c.in-Two.is (subst (λ t. IfErr c.check_tree-in-Two.result
-    (λ fault. (fault ≡ Memory) ⊎ IsWrongTree c.args.claim.now.timing.now t (offsets_in c.args.claim.now.plan.now) (map tree_node c.args.nodes.now) fault))
-    worse c.check_tree-in-Two.ensures.err)
+returns-in-Two-clause-err c = grind arith
