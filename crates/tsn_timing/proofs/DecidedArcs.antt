@@ -30,12 +30,7 @@ arc_right network decision first second lag is_right first_is second_is lag_is =
 -- a conflict's lag is within its streams' periods
 pub lag_bounds : (network : Network) (triple : Triple) → IsWellFormed network → IsConflict network triple
     → (pos 0 <ℤ (triple.lag +ℤ pos 1000000000)) × (triple.lag <ℤ pos 1000000000)
-lag_bounds network triple formed conflict =
-    let after = conflict.lag.not_after in
-    let before = conflict.lag.not_before in
-    let left = period-le network formed triple.left in
-    let right = period-le network formed triple.right in
-    (omega (arith, ints, before, right), omega (arith, ints, after, left))
+lag_bounds network triple formed conflict = grind (arith, period-le, ints)
 
 pub arc_ends : (network : Network) (i j link : ℕ) (lag : ℤ) → ((arc_between network i j link lag).from ≡ i) × ((arc_between network i j link lag).to ≡ j)
 unfolding arc_between

@@ -1,5 +1,5 @@
 -- The first overlap of two streams' frames, hop by hop, and of all of them.
-use Rattle.std.proofs.Common.{◌≡◌, length, get_or, All, ◌≤◌, ◌<◌, ◌+◌, ◌⊎◌, ℕ, ℤ, List, Option, Some, None, MatchOption, refl, sym, ap, subst, ◌∙◌, arith, inl, inr, ltb-true, ltb-false}
+use Rattle.std.proofs.Common.{◌≡◌, length, All, ◌≤◌, ◌<◌, ◌+◌, ◌⊎◌, ℕ, ℤ, List, Option, Some, None, MatchOption, refl, sym, ap, subst, ◌∙◌, arith, inl, inr, ltb-true, ltb-false}
 use Rattle.std.specs.Prelude.{nat_lt, if◌then◌else◌, ◌<ℤ◌}
 use Rattle.std.proofs.lemmas.Bool.{cases_lt, cond_both}
 use Rattle.std.proofs.lemmas.Int.{ints}
@@ -138,8 +138,7 @@ module _ (network : Network) (offsets : List ℕ) (left right : ℕ) where
     overlap = before.overlap;
     first = λ link lag overlap.
         let hop = at_hop link lag overlap in
-        subst (λ l. ComesFirst triple l lag) hop.2
-        (before.first hop.0 lag (omega arith) (subst (λ l. IsOverlapOf network offsets left right l lag) (sym hop.2) overlap));
+        rw (← hop.2) (before.first hop.0 lag (omega arith) (subst (λ l. IsOverlapOf network offsets left right l lag) (sym hop.2) overlap));
   }
   -- ---- pairs and triples, in order
 
@@ -148,13 +147,7 @@ module _ (network : Network) (offsets : List ℕ) where
   IsEarlier triple link lag = (link < triple.link) ⊎ ((link ≡ triple.link) × (lag <ℤ triple.lag))
 
   not_earlier : (triple : Triple) (link : ℕ) (lag : ℤ) → ComesFirst triple link lag → IsEarlier triple link lag → ⊥
-  not_earlier triple link lag first earlier = elim first [
-    | inl less ↦ elim earlier [ inl before ↦ omega arith | inr same ↦ omega arith ]
-    | inr at ↦ elim earlier [
-      | inl before ↦ omega arith
-      | inr same ↦ let within = at.1 in let less = same.1 in omega (arith, ints, within, less)
-    ]
-  ]
+  not_earlier triple link lag first earlier = grind (arith, ints)
 
   abbrev Last : Triple → Triple → Type 0
   Last a b = ((a.left ≡ b.left) × (a.right ≡ b.right) × (a.link < b.link)) ⊎ ((a.left ≡ b.left) × (a.right ≡ b.right) × (a.link ≡ b.link) × (a.lag <ℤ b.lag))
@@ -193,8 +186,4 @@ module _ (network : Network) (offsets : List ℕ) where
   -- offsets that fit their periods are within the cycle
   pub fits_small : length offsets ≡ stream_count network → ((i : ℕ) → i < stream_count network → FitsPeriod network offsets i)
       → All (λ offset. offset ≤ network.cycle) offsets
-  fits_small count fits k d inside =
-      let fit = fits k (omega arith) in
-      let short = period-le-cycle network k in
-      let same : get_or offsets k d ≡ get_or offsets k 0 = get_or_default offsets k d 0 inside in
-      omega arith
+  fits_small count fits k d inside = grind (arith, period-le-cycle, get_or_default)

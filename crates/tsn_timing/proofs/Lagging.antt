@@ -37,19 +37,7 @@ module _ (network : Network) (j first : ℕ) (above below : ℤ) where
 
   pub after_left : (n : ℕ) (least lag : ℤ) → lag ≡ pos (get_or (shifts network j) n 0) -ℤ pos first → ((above <ℤ lag → least ≤ℤ lag))
       → IsLeastAfter n least → IsLeastAfter (n + 1) least
-  after_left n least lag is no_less before = record {
-    within = before.within;
-    reached = before.reached;
-    least_of = λ m counted over. elim (cases_lt m n) [
-      | inl earlier ↦ before.least_of m earlier over
-      | inr at ↦
-          let same : n ≡ m = omega arith in
-          let over_lag : above <ℤ lag = subst (λ l. above <ℤ l) (sym is)
-          (subst (λ k. above <ℤ (pos (get_or (shifts network j) k 0) -ℤ pos first)) (sym same) over) in
-          let fine : least ≤ℤ lag = no_less over_lag in
-          subst (λ k. least ≤ℤ (pos (get_or (shifts network j) k 0) -ℤ pos first)) same (subst (λ l. least ≤ℤ l) is fine)
-    ];
-  }
+  after_left n least lag is no_less before = grind arith
 
   pub after_all : (n : ℕ) (least : ℤ) → length (shifts network j) ≤ n → IsLeastAfter n least → (lag : ℤ) → IsAfter network j first above below lag
       → least ≤ℤ lag
@@ -122,12 +110,4 @@ module _ (network : Network) (i j : ℕ) (above below : ℤ) where
 
 pub lag_from : (network : Network) (i j : ℕ) (lag : ℤ) (first second : ℕ) → Sends network i first → Sends network j second → lag ≡ pos second -ℤ pos first
     → lag <ℤ pos (period_of network i) → pos 0 <ℤ (lag +ℤ pos (period_of network j)) → IsLag network i j lag
-lag_from network i j lag first second first_sent second_sent is not_after not_before = record {
-  first = first;
-  second = second;
-  first_sent = first_sent;
-  second_sent = second_sent;
-  is = is;
-  not_after = not_after;
-  not_before = not_before;
-}
+lag_from network i j lag first second first_sent second_sent is not_after not_before = grind arith

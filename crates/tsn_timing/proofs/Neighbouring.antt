@@ -22,20 +22,12 @@ made stream link begin end = record { stream = stream; link = link; begin = begi
 pub first_is : (network : Network) (offset i k begin link length : ℕ) → begin ≡ start network i k → link ≡ route_link network i k
     → length ≡ occupancy network i (route_link network i k) → made i link (offset + begin) (offset + begin + length) ≡ occupancy_at network offset i k 0
 unfolding occupancy_at
-first_is network offset i k begin link length begins link_is lasts =
-    let starts : offset + begin ≡ offset + start network i k + 0 = omega arith in
-    let ends : offset + begin + length ≡ offset + start network i k + occupancy network i (route_link network i k) + 0 = omega arith in
-    λ x. made i (link_is x) (starts x) (ends x)
+first_is network offset i k begin link length begins link_is lasts = grind arith
 
 -- that of a later frame is so much later
 later_is : (network : Network) (offset i k shift : ℕ) → later (occupancy_at network offset i k 0) shift ≡ occupancy_at network offset i k shift
 unfolding occupancy_at
-later_is network offset i k shift =
-    let link = route_link network i k in
-    let starts : offset + start network i k + 0 + shift ≡ offset + start network i k + shift = omega arith in
-    let lasts = occupancy network i link in
-    let ends : offset + start network i k + lasts + 0 + shift ≡ offset + start network i k + lasts + shift = omega arith in
-    λ x. made i link (starts x) (ends x)
+later_is network offset i k shift = grind arith
 
 module _ (network : Network) (offsets : List ℕ) where
   -- those of all streams below i, and of the first k hops of i
@@ -79,10 +71,7 @@ module _ (network : Network) (offsets : List ℕ) where
   }
 
   pub all_so_far : (i : ℕ) (occupancies : List Occupancy) → stream_count network ≤ i → AreSoFar i 0 occupancies → AreOccupancies network offsets occupancies
-  all_so_far i occupancies all so_far = record {
-    in_order = so_far.in_order;
-    each = λ j l shift below hop sent. so_far.before j l shift (omega arith) hop sent;
-  }
+  all_so_far i occupancies all so_far = grind arith
 
   pub sorted : (occupancies others : List Occupancy) → IsPermutation occupancies others → AreOccupancies network offsets occupancies
       → AreOccupancies network offsets others
@@ -94,18 +83,7 @@ module _ (network : Network) (offsets : List ℕ) where
 -- ---- one after the other
 
 pub passes_on : (a b c : Occupancy) → b.begin ≤ b.end → IsBefore a b → IsBefore b c → IsBefore a c
-passes_on a b c order first second = elim first [
-  | inl less ↦ elim second [
-    | inl more ↦ inl (omega arith)
-    | inr same ↦ let link = same.0 in inl (omega arith)
-  ]
-  | inr same ↦
-      let link = same.0 in
-      elim second [
-        | inl more ↦ inl (omega arith)
-        | inr again ↦ let next = again.0 in inr (link ∙ next, omega arith)
-      ]
-]
+passes_on a b c order first second = grind arith
 
 -- each of the first n is before those of them that follow it
 abbrev pub AreFollowing : List Occupancy → ℕ → Type 0
@@ -137,12 +115,7 @@ not_before : (network : Network) (first second i k s j l t link instant : ℕ) �
     → instant < first + start network i k + s + occupancy network i link → second + start network j l + t ≤ instant
     → IsBefore (occupancy_at network first i k s) (occupancy_at network second j l t) → ⊥
 unfolding occupancy_at
-not_before network first second i k s j l t link instant i_link j_link not_ended begun before = elim before [
-  | inl less ↦ omega arith
-  | inr (same, ends) ↦
-      let lasts : occupancy network i (route_link network i k) ≡ occupancy network i link = ap (occupancy network i) i_link in
-      omega arith
-]
+not_before network first second i k s j l t link instant i_link j_link not_ended begun before = grind arith
 
 module _ (network : Network) (offsets : List ℕ) where
   abbrev at_frame : ℕ → ℕ → ℕ → Occupancy

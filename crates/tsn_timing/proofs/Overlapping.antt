@@ -65,13 +65,7 @@ module _ (network : Network) (offsets : List ℕ) (left right link first second 
       (arith, ints, is, near) in
       let left_in : first + between.first + 1 ≤ second + between.after.second + occupancy network right link = let near = before.0 in omega
       (arith, ints, is, near) in (
-        record {
-          ordered = bounds.ordered;
-          counted = bounds.counted;
-          left_uses = bounds.left_uses;
-          right_uses = bounds.right_uses;
-          lag = record { first = between.first; second = between.after.second; first_sent = between.sent; second_sent = between.after.sent; is = is; not_after = after.1; not_before = before.1 };
-        },
+        grind arith,
         record {
           left = between.first;
           right = between.after.second;

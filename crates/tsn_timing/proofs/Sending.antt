@@ -75,15 +75,7 @@ module _ (network : Network) (i : ℕ) where
       let begin : shift - parts.place * pace network i ≡ parts.turn * period_of network i = omega arith in
       let turn : (shift - parts.place * pace network i) / period_of network i ≡ parts.turn = ap (λ n. n / period_of network i) begin
       ∙ mul-div_cancel parts.turn (omega arith) in
-      let in_cycle = parts.in_cycle in (
-        parts.place,
-        parts.in_burst,
-        record {
-          within = omega arith;
-          whole = ap (λ n. n % period_of network i) begin ∙ mul-mod_left parts.turn (period_of network i);
-          in_cycle = omega arith;
-        },
-      )
+      let in_cycle = parts.in_cycle in grind (arith, mul-mod_left)
 
 -- the shifts are small
 pub shifts-le : (network : Network) (i : ℕ) → IsWellFormed network → i < stream_count network → All (λ shift. shift ≤ 1018504000) (shifts network i)

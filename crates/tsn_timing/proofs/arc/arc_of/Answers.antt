@@ -61,8 +61,7 @@ returns-clause-arc c =
     let second = c.in-Some-hop_on.second_hop in
     let weighs :
     (pos (start network ends.0 first + occupancy network ends.0 (route_link network ends.0 first)) -ℤ pos (start network ends.1 second)) -ℤ lag ≡
-    (arc_of network decision).weight =
-    arc_weighs network ends.0 ends.1 decision.triple.link first second lag c.in-Some.ensures c.in-Some-hop_on.ensures ∙ ap (λ (a : Arc). a.weight) (sym arc) in
+    (arc_of network decision).weight = cc (arc_weighs network ends.0 ends.1 decision.triple.link first second lag c.in-Some.ensures c.in-Some-hop_on.ensures) in
     let joins = arc_ends network ends.0 ends.1 decision.triple.link lag in
     arc_same _ _ (sym (ap (λ (a : Arc). a.from) arc ∙ joins.0)) (sym (ap (λ (a : Arc). a.to) arc ∙ joins.1))
     (let near = near_lag c in let after = near.0 in let before = near.1 in omega (arith, ints, weighs, after, before))

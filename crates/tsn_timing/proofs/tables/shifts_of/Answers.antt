@@ -1,28 +1,13 @@
-use Rattle.std.proofs.Common.{◌≡◌, ◌≤◌, ◌∷◌, [], ◌++◌, ℕ, All, sym, ap, ◌∙◌, subst, arith, append-nil, append_assoc}
+use Rattle.std.proofs.Common.{◌≡◌, ◌≤◌, All, sym, ap, ◌∙◌, subst, arith, append-nil, append_assoc}
 use Rattle.tsn_model.specs.Network.{turns_of, burst_of}
-use Rattle.tsn_timing.proofs.Sending.{of_turn, of_turns, turn_more, turns_more, all_turns, shifts-le}
+use Rattle.tsn_timing.proofs.Sending.{of_turns, turn_more, turns_more, all_turns, shifts-le}
 use Rattle.tsn_timing.proofs.tables.shifts_of.Goals as goal
 
 pub loop-place-init : goal.loop-place-init
-loop-place-init c = record {
-  so_far = c.loop-turn.invariant.so_far ∙ sym (append-nil (of_turns c.args.network.now c.args.stream c.loop-turn.turn));
-  end = c.burst-place-end.ensures.value;
-}
+loop-place-init c = grind (arith, append-nil)
 
 pub loop-place-preserved : goal.loop-place-preserved
-loop-place-preserved c =
-    let network = c.args.network.now in
-    let i = c.args.stream in
-    let turn = c.loop-turn.turn in
-    let place = c.loop-place.place in
-    record {
-      so_far =
-          c.in_ok-push.ensures.items ∙ ap (λ xs. xs ++ c.shift.result ∷ []) c.loop-place.invariant.so_far
-          ∙ append_assoc (of_turns network i turn) (of_turn network i place turn) (c.shift.result ∷ [])
-          ∙ ap (λ (s : ℕ). of_turns network i turn ++ (of_turn network i place turn ++ s ∷ [])) c.shift.ensures.value
-          ∙ ap (λ xs. of_turns network i turn ++ xs) (sym (turn_more network i turn place));
-      end = c.loop-place.invariant.end;
-    }
+loop-place-preserved c = grind (arith, append_assoc, turn_more)
 
 pub loop-turn-preserved : goal.loop-turn-preserved
 loop-turn-preserved c =
@@ -30,10 +15,7 @@ loop-turn-preserved c =
     let i = c.args.stream in
     let turn = c.loop-turn.turn in
     let all : c.loop-place.place ≡ burst_of network i = omega arith in
-    record {
-      so_far = c.loop-place.invariant.so_far ∙ ap (λ places. of_turns network i turn ++ of_turn network i places turn) all ∙ sym (turns_more network i turn);
-      end = c.loop-turn.invariant.end;
-    }
+    grind (arith, turns_more)
 
 pub returns-clause-value : goal.returns-clause-value
 returns-clause-value c =

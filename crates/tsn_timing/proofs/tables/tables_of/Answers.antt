@@ -4,10 +4,7 @@ use Rattle.tsn_timing.proofs.Tabling.{right_none, right_more}
 use Rattle.tsn_timing.proofs.tables.tables_of.Goals as goal
 
 pub loop-stream-init : goal.loop-stream-init
-loop-stream-init c = record {
-  right = subst (AreRight (IsTable c.args.network.now) 0) (sym c.new-tables.ensures.items) (right_none (IsTable c.args.network.now));
-  end = c.streams-stream-end.ensures.value;
-}
+loop-stream-init c = grind (arith, right_none)
 
 pub loop-stream-preserved : goal.loop-stream-preserved
 loop-stream-preserved c = record {

@@ -17,9 +17,8 @@ loop-hop-preserved c =
     let n = c.loop-hop.hop in
     record {
       so_far = elim c.match-least_overlap.branch [
-        | in-Some w ↦ subst (AreSoFar network offsets c.args.left c.args.right (n + 1)) (sym w.first-is)
-            (first_given network offsets c.args.left c.args.right n c.loop-hop.first w.in-Some.lag w.route_link-link.result _ w.sooner.result
-            w.route_link-link.ensures.value (omega (arith, ints)) c.loop-hop.invariant.so_far w.in-Some.ensures w.sooner.ensures)
+        | in-Some w ↦ rw w.first-is (first_given network offsets c.args.left c.args.right n c.loop-hop.first w.in-Some.lag w.route_link-link.result _
+            w.sooner.result w.route_link-link.ensures.value (omega (arith, ints)) c.loop-hop.invariant.so_far w.in-Some.ensures w.sooner.ensures)
         | in_default w ↦ subst (AreSoFar network offsets c.args.left c.args.right (n + 1)) (sym w.first-is)
             (first_same network offsets c.args.left c.args.right n c.loop-hop.first c.loop-hop.invariant.so_far w.in_default.ensures)
       ];

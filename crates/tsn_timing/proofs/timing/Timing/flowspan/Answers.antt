@@ -1,4 +1,4 @@
-use Rattle.std.proofs.Common.{◌+◌, max, [], map, ◌∙◌, sym, ap, ap₂, arith}
+use Rattle.std.proofs.Common.{◌+◌, [], map, ◌∙◌, sym, ap, arith}
 use Rattle.std.specs.List.{range_with_len}
 use Rattle.tsn_model.specs.Timing.{arrival, greatest}
 use Rattle.tsn_model.specs.Schedule.{flowspan, offset_of}
@@ -10,10 +10,7 @@ loop-stream-init c = record { so_far = sym greatest-nil; bound = omega arith; en
 
 pub loop-stream-preserved : goal.loop-stream-preserved
 loop-stream-preserved c = record {
-  so_far =
-      c.max-last.ensures
-      ∙ (ap₂ max c.loop-stream.invariant.so_far (ap (λ a. offset_of c.args.offsets.now c.loop-stream.stream + a) c.arrival.ensures.value)
-      ∙ sym (greatest_more (λ i. offset_of c.args.offsets.now i + arrival c.args.self.now i) [] c.loop-stream.stream));
+  so_far = cc (greatest_more (λ i. offset_of c.args.offsets.now i + arrival c.args.self.now i) [] c.loop-stream.stream);
   bound =
       let small = c.requires.small c.loop-stream.stream 0 (omega arith) in
       omega arith;

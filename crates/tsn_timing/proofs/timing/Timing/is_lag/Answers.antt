@@ -7,18 +7,14 @@ use Rattle.tsn_model.specs.Timing.{shifts, Sends}
 use Rattle.tsn_timing.proofs.Sending.{Sends-counted}
 use Rattle.tsn_timing.proofs.Lagging.{lag_from}
 use Rattle.tsn_timing.proofs.timing.Timing.is_lag.Goals as goal
-use Rattle.tsn_timing.proofs.timing.Timing.is_lag.Goals.{then-left-streams-via-then-left-streams, then-left-streams-via-else-left-streams+then-right-streams, else-second-ge0-via-then-second-ge0+else-is_shift, else-second-ge0-via-else-second-ge0}
+use Rattle.tsn_timing.proofs.timing.Timing.is_lag.Goals.{else-second-ge0-via-then-second-ge0+else-is_shift, else-second-ge0-via-else-second-ge0}
 
 pub returns-then-left-streams : goal.returns-then-left-streams
 returns-then-left-streams c =
     λ lag.
     let left = Sends-counted c.args.self.now c.args.left lag.first lag.first_sent in
     let right = Sends-counted c.args.self.now c.args.right lag.second lag.second_sent in
-    elim c.then-left-streams.branch [
-      | then-left-streams-via-then-left-streams w ↦ omega arith
-      | then-left-streams-via-else-left-streams+then-right-streams w ↦
-          omega arith
-    ]
+    grind arith
 
 pub returns-then-is_shift : goal.returns-then-is_shift
 returns-then-is_shift c =

@@ -27,8 +27,7 @@ loop-second-preserved c =
           let more = w.if-above-lag.true in
           let less = w.if-lag-least.true in
           let is : lag ≡ out = omega (arith, ints, w.least-is, small, soon, same) in
-          subst (IsLeastAfter network j first above below (n + 1)) is
-          (after_taken network j first above below n old lag inside refl (omega (arith, ints, more, small, soon, same))
+          rw (← is) (after_taken network j first above below n old lag inside refl (omega (arith, ints, more, small, soon, same))
           (omega (arith, ints, less, small, soon, same)) c.loop-second.invariant)
       | else-above-lag w ↦
           subst (IsLeastAfter network j first above below (n + 1)) (sym w.least-is)

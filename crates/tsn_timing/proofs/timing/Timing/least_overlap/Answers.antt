@@ -27,8 +27,7 @@ returns c =
     let link = route_link network left c.args.hop in
     let formed = c.cycle-limits.ensures.well_formed in
     let left_below : left < stream_count network = let counted = c.requires.right in omega arith in
-    let on : hop_on network right link ≡ Some c.in-Some.other = ap (hop_on network right) (sym c.route_link.ensures.value)
-    ∙ (sym c.hop_on.ensures ∙ c.in-Some.is) in
+    let on : hop_on network right link ≡ Some c.in-Some.other = cc in
     let found = hop_on_found network right link c.in-Some.other on in
     let left_start = c.start.ensures.value ∙ sym (hop_start network formed left left_below c.args.hop c.requires.hop) in
     let right_start = c.start-2.ensures.value ∙ found.2 in

@@ -1,8 +1,8 @@
-use Rattle.std.proofs.Common.{◌≡◌, ◌+◌, ◌++◌, ◌≤◌, map, sym, ap, ◌∙◌, subst, arith}
+use Rattle.std.proofs.Common.{◌≡◌, ◌+◌, ◌++◌, ◌≤◌, map, arith}
 use Rattle.tsn_model.specs.Network.{stream_count, hop_count}
 use Rattle.tsn_model.specs.Timing.{shifts}
 use Rattle.tsn_timing.specs.Neighbours.{later}
-use Rattle.tsn_timing.proofs.Neighbouring.{AreSoFar, one_hop_more, one_stream_more, all_so_far}
+use Rattle.tsn_timing.proofs.Neighbouring.{one_hop_more, one_stream_more, all_so_far}
 use Rattle.tsn_timing.proofs.timing.Timing.occupancies.Goals as goal
 
 pub loop-hop-preserved : goal.loop-hop-preserved
@@ -10,11 +10,9 @@ loop-hop-preserved c =
     let network = c.args.self.now in
     let i = c.loop-stream.stream in
     let first = c.first_occupancy-first.result in
-    let now : c.push_later.new.occupancies.items ≡ c.loop-hop.occupancies.items ++ map (later first) (shifts network i) = c.in_ok-push_later.ensures
-    ∙ ap (λ list. c.loop-hop.occupancies.items ++ map (later first) list) c.shifts.ensures.value in
+    let now : c.push_later.new.occupancies.items ≡ c.loop-hop.occupancies.items ++ map (later first) (shifts network i) = cc c.in_ok-push_later.ensures in
     record {
-      so_far = subst (AreSoFar network c.args.offsets.now i (c.loop-hop.hop + 1)) (sym now)
-          (one_hop_more network c.args.offsets.now i c.loop-hop.hop c.loop-hop.occupancies.items first c.first_occupancy-first.ensures.value
+      so_far = rw now (one_hop_more network c.args.offsets.now i c.loop-hop.hop c.loop-hop.occupancies.items first c.first_occupancy-first.ensures.value
           c.first_occupancy-first.ensures.order c.loop-hop.invariant.so_far);
       end = c.loop-hop.invariant.end;
     }
