@@ -1,5 +1,5 @@
 -- Moves: arcs of the view, rounds, and what is left of a clause.
-use Rattle.std.proofs.Common.{◌≡◌, ℕ, zero, suc, ◌+◌, ◌≤◌, ◌<◌, List, [], ◌∷◌, ◌++◌, length, take, get_or, map, Option, Some, None, ℤ, pos, ◌+ℤ◌, ◌-ℤ◌, ◌≤ℤ◌, ◌*◌, All, Contains, true, false, refl, sym, ap, ◌∙◌, subst, inl, inr, arith}
+use Rattle.std.proofs.Common.{◌≡◌, ℕ, zero, suc, ◌+◌, ◌≤◌, ◌<◌, List, [], ◌∷◌, ◌++◌, length, take, get_or, map, Option, Some, None, ℤ, pos, ◌+ℤ◌, ◌≤ℤ◌, ◌*◌, All, Contains, true, false, refl, sym, ap, ◌∙◌, subst, inl, inr, arith}
 use Rattle.std.specs.Prelude.{Ok, not, drop, is_some}
 use Rattle.std.proofs.lemmas.Int.{ints}
 use Rattle.std.proofs.lemmas.Bool.{true≢false}
@@ -9,9 +9,8 @@ use Rattle.tsn_model.specs.declared.Arc.{Arc}
 use Rattle.tsn_model.specs.declared.Decision.{Decision}
 use Rattle.tsn_model.specs.Network.{Network, stream_count}
 use Rattle.tsn_model.specs.Schedule.{IsConflict}
-use Rattle.tsn_model.specs.Timing.{arrival}
 use Rattle.tsn_model.specs.Arcs.{arc_of}
-use Rattle.tsn_model.specs.Argument.{Fact as ModelFact, from, until, done_from, IsFact, low_at, high_at, go, apply, arrive, shown, shown_by, refuting, unit_of, clause_at, View, LeadsBy, weight_by, contradicts, left_open, turned}
+use Rattle.tsn_model.specs.Argument.{Fact as ModelFact, IsFact, apply, shown, refuting, unit_of, clause_at, View, LeadsBy, weight_by, contradicts, left_open, turned}
 use Rattle.tsn_model.proofs.Lists.{All-unmap}
 use Rattle.tsn_model.proofs.ArgumentMoves.{arc_within}
 use Rattle.tsn_cert.specs.Fact.{fact_of, clause_of}
@@ -246,21 +245,6 @@ one_fact network facts fact is there = subst (All (IsFact network)) (sym is) (Al
 pub two_facts : (network : Network) (first second : ModelFact) → IsFact network first → IsFact network second → All (IsFact network) (first ∷ second ∷ [])
 two_facts network first second one other =
     All-cons (IsFact network) first (second ∷ []) one (All-cons (IsFact network) second [] other (All-nil (IsFact network)))
-
-pub refutes : (network : Network) (view : View) (facts : List ModelFact) → facts ≡ refuting view ∷ [] → All (IsFact network) facts
-unfolding refuting
-refutes network view facts is = one_fact network facts (refuting view) is tt
-
-module _ (network : Network) (clauses : List (List ModelFact)) (view : View) where
-  pub go_shown : (decision : Decision) (arc : Arc) (a b : ℤ) → arc ≡ arc_of network decision → a ≡ low_at view arc.from +ℤ arc.weight
-      → b ≡ high_at view arc.to -ℤ arc.weight → from arc.to a ∷ until arc.from b ∷ [] ≡ shown network clauses view (go decision)
-  unfolding shown shown_by
-  go_shown decision arc a b is low high = (λ i. from arc.to (low i) ∷ until arc.from (high i) ∷ []) ∙ ap (shown_by view) is
-
-  pub arrive_shown : (i : ℕ) (a b : ℤ) → a ≡ low_at view i +ℤ pos (arrival network i) → b ≡ view.done_high -ℤ pos (arrival network i)
-      → done_from a ∷ until i b ∷ [] ≡ shown network clauses view (arrive i)
-  unfolding shown
-  arrive_shown i a b low high = λ k. done_from (low k) ∷ until i (high k) ∷ []
 
 -- the clause of a number
 module _ (clauses : List (Bor Clause)) (k : ℕ) (clause : Bor Clause) (below : k < length clauses) (is : clause ≡ get_or clauses k clause) where

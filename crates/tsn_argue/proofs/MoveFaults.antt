@@ -10,7 +10,7 @@ use Rattle.tsn_model.specs.declared.Decision.{Decision}
 use Rattle.tsn_model.specs.Arcs.{arc_of}
 use Rattle.tsn_model.proofs.Routes.{UsesLink-counted}
 use Rattle.tsn_model.specs.Certificate.{IsFrameOn}
-use Rattle.tsn_model.specs.Argument.{from, go, turn, apply, arrive, put_last, put_first, pack, round, follow, Fact, View, Move, AreOn, AreSome, LeadsBy, AsksNoMore, IsAllowed}
+use Rattle.tsn_model.specs.Argument.{go, turn, apply, put_last, put_first, pack, round, follow, Fact, View, Move, AreOn, AreSome, LeadsBy, AsksNoMore, IsAllowed}
 use Rattle.tsn_argue.specs.First.{IsFirstWrong}
 use Rattle.tsn_argue.specs.Faults.{IsOffLink, IsWrongFrame, AreWrongOn, AreAmong, IsWrongChoice, AreWrongAmong, IsWrongPlacing, LeadOn, GoRound, IsWrongOrder, IsUnclosed, AsksMore, IsWrongMove}
 use Rattle.tsn_argue.specs.declared.wrong.Wrong.{Wrong}

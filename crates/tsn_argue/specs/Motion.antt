@@ -1,6 +1,6 @@
 -- What is found of a move.
 --     facts_of, clauses_of, AreFacts           what a move shows, and the clauses that were shown, as the checker keeps them
---     JudgesMove                               what the move shows, or what is wrong with it
+--     JudgesMove, Judges                       what the move shows, or what is wrong with it
 --     FindsUnit, FindsPlacing, FindsRound      what is found of its parts
 use Rattle.std.specs.Prelude.{◌≡◌, ◌⊎◌, ◌<◌, List, [], ◌∷◌, map, length, ℕ, ℤ, pos, ◌+ℤ◌, ◌≤ℤ◌, All, Contains, Result, Ok, Err, Option, Some, None}
 use Rattle.std.specs.Borrow.{Bor}
@@ -19,7 +19,9 @@ use Rattle.tsn_argue.specs.Faults.{IsWrongMove, IsUnclosed, AreWrongOn, AreWrong
 use Rattle.tsn_argue.specs.declared.news.News.{News}
 use Rattle.tsn_argue.specs.declared.wrong.Wrong.{Wrong}
 use Rattle.tsn_argue.specs.declared.wrong.Wrong.TheVariants as kind
+use Rattle.tsn_argue.specs.declared.motion.Basis.{Basis}
 use Rattle.tsn_argue.specs.declared.motion.Shown.{Shown}
+use Rattle.tsn_argue.specs.State.{view_of}
 
 -- a second fact, if there is one
 abbrev pub also : Option News → List model.Fact
@@ -43,6 +45,10 @@ abbrev pub JudgesMove : Network → List (List model.Fact) → View → model.Mo
 JudgesMove network clauses view move (Ok found) =
     IsAllowed network clauses view move × (facts_of found ≡ shown network clauses view move) × All (IsFact network) (facts_of found)
 JudgesMove network clauses view move (Err wrong) = IsWrongMove network clauses view move wrong
+
+-- the same, by what a move is judged by
+abbrev pub Judges : Basis → model.Move → Result Shown Wrong → Type 0
+Judges basis move result = JudgesMove basis.view.now.timing.now (clauses_of basis.clauses.now) (view_of basis.view.now) move result
 
 -- what is left of the clause of a number, if anything is; or how many facts are left, where they are more than one
 abbrev pub FindsUnit : View → ℕ → List model.Fact → Result (Option Fact) Wrong → Type 0

@@ -1,6 +1,10 @@
 //! Whether a move may be made on a view, what it shows, and what it uses for that.
-ghost use Rattle.std.specs.Prelude.{◌≡◌, ◌≤◌, [], ◌∷◌, List, length, map, false, All, MatchBool};
-ghost use Rattle.tsn_model.specs.Argument.{Fact as ModelFact, IsFact, go, turn, apply, arrive, put_last, put_first, pack, round, follow, refuting, left_open};
+ghost use Rattle.std.specs.Prelude.{◌≡◌, ◌<◌, ◌≤◌, ◌≤ℤ◌, pos, [], ◌∷◌, length, map, false, All, MatchBool};
+ghost use Rattle.tsn_model.specs.Network.{stream_count};
+ghost use Rattle.tsn_model.specs.Schedule.{IsConflict};
+ghost use Rattle.tsn_model.specs.Arcs.{arc_of as model_arc_of};
+ghost use Rattle.tsn_timing.specs.Arcs.{IsSmall};
+ghost use Rattle.tsn_model.specs.Argument.{IsFact, low_at, high_at, go, turn, apply, arrive, put_last, put_first, pack, round, follow, refuting, left_open};
 ghost use Rattle.tsn_cert.specs.Order.{decision_of};
 ghost use Rattle.tsn_cert.specs.Fact.{clause_of};
 ghost use Rattle.tsn_cert.specs.Move.{move_of};
@@ -8,7 +12,7 @@ ghost use Rattle.tsn_argue.specs.State.{view_of, IsSound};
 ghost use Rattle.tsn_argue.specs.News.{news_of};
 ghost use Rattle.tsn_argue.specs.Faults.{AreAlike};
 ghost use Rattle.tsn_argue.specs.Loads.{ShowsWithout};
-ghost use Rattle.tsn_argue.specs.Motion.{facts_of, clauses_of, AreFacts, JudgesMove, FindsUnit, FindsPlacing, FindsRound, FindsArc};
+ghost use Rattle.tsn_argue.specs.Motion.{facts_of, clauses_of, AreFacts, JudgesMove, Judges, FindsUnit, FindsPlacing, FindsRound, FindsArc};
 
 use crate::link::{judge_choice, judge_frames, load_all, load_with, visit_of};
 use crate::news::{News, turned};
@@ -37,6 +41,80 @@ impl Shown {
     }
 }
 
+/// What a move is judged by: the view on which it is made, and the clauses that were shown.
+#[derive(Clone, Copy)]
+struct Basis<'a> {
+    view: &'a View<'a>,
+    clauses: &'a [&'a Clause],
+}
+
+impl Basis<'_> {
+    /// The least offset of a stream, from 0 to the cycle.
+    #[tactic(auto, using(crate::proofs::OpenViews::open_low))]
+    fn least(&self, stream: usize) -> i128
+        requires sound { IsSound self.now.view.now }
+        requires possible { self.now.view.now.crossed ≡ false }
+        requires there { stream < stream_count self.now.view.now.timing.now }
+        ensures value { result ≡ low_at (view_of self.now.view.now) stream }
+        ensures low { pos 0 ≤ℤ result }
+        ensures high { result ≤ℤ pos 1_000_000_000 }
+    {
+        let _cycle = self.view.timing.cycle();
+        self.view.low.at(stream)
+    }
+
+    /// The greatest offset of a stream, from 0 to the cycle.
+    #[tactic(auto, using(crate::proofs::OpenViews::open_high))]
+    fn greatest(&self, stream: usize) -> i128
+        requires sound { IsSound self.now.view.now }
+        requires possible { self.now.view.now.crossed ≡ false }
+        requires there { stream < stream_count self.now.view.now.timing.now }
+        ensures value { result ≡ high_at (view_of self.now.view.now) stream }
+        ensures low { pos 0 ≤ℤ result }
+        ensures high { result ≤ℤ pos 1_000_000_000 }
+    {
+        let _cycle = self.view.timing.cycle();
+        self.view.high.at(stream)
+    }
+
+    /// The greatest flowspan, from 0 to the cycle.
+    #[tactic(auto, using(crate::proofs::OpenViews::open_done))]
+    fn greatest_done(&self) -> i128
+        requires sound { IsSound self.now.view.now }
+        requires possible { self.now.view.now.crossed ≡ false }
+        ensures value { result ≡ self.now.view.now.done.high }
+        ensures low { pos 0 ≤ℤ result }
+        ensures high { result ≤ℤ pos 1_000_000_000 }
+    {
+        let _cycle = self.view.timing.cycle();
+        self.view.done.high
+    }
+
+    /// One fact that a move shows.
+    #[tactic(auto, using(crate::proofs::MotionLemmas::one_fact))]
+    fn one(&self, news: News) -> Shown
+        requires { IsFact self.now.view.now.timing.now (news_of news) }
+        ensures shown { facts_of result ≡ news_of news ∷ [] }
+        ensures facts { All (IsFact self.now.view.now.timing.now) (facts_of result) }
+    {
+        Shown::one(news)
+    }
+
+    /// Two facts that a move shows.
+    #[tactic(auto, using(crate::proofs::MotionLemmas::two_facts))]
+    fn two(&self, first: News, second: News) -> Shown
+        requires first { IsFact self.now.view.now.timing.now (news_of first) }
+        requires second { IsFact self.now.view.now.timing.now (news_of second) }
+        ensures shown { facts_of result ≡ news_of first ∷ news_of second ∷ [] }
+        ensures facts { All (IsFact self.now.view.now.timing.now) (facts_of result) }
+    {
+        Shown {
+            first,
+            second: Some(second),
+        }
+    }
+}
+
 /// What the move shows of each schedule that fits the view, or what is wrong with it.
 pub fn judge(view: &View<'_>, clauses: &[&Clause], motion: &Move) -> Result<Shown, Wrong>
     requires sound { IsSound view.now }
@@ -44,48 +122,48 @@ pub fn judge(view: &View<'_>, clauses: &[&Clause], motion: &Move) -> Result<Show
     requires facts { AreFacts view.now.timing.now (clauses_of clauses.now) }
     ensures { JudgesMove view.now.timing.now (clauses_of clauses.now) (view_of view.now) (move_of motion.now) result }
 {
+    let basis = Basis { view, clauses };
     match motion {
-        Move::Go(order) => judge_go(view, order.decision()),
-        Move::Turn(order) => judge_turn(view, order.decision()),
-        Move::Use(number) => judge_use(view, clauses, *number),
-        Move::Arrive(stream) => judge_arrive(view, *stream),
-        Move::Last(placing) => judge_last(view, placing),
-        Move::First(placing) => judge_first(view, placing),
-        Move::Pack(link, frames) => judge_pack(view, *link, frames.list()),
-        Move::Round(orders) => judge_round(view, orders.list()),
-        Move::Follow(known, weaker) => judge_follow(view, known.decision(), weaker.decision()),
+        Move::Go(order) => judge_go(&basis, order.decision()),
+        Move::Turn(order) => judge_turn(&basis, order.decision()),
+        Move::Use(number) => judge_use(&basis, *number),
+        Move::Arrive(stream) => judge_arrive(&basis, *stream),
+        Move::Last(placing) => judge_last(&basis, placing),
+        Move::First(placing) => judge_first(&basis, placing),
+        Move::Pack(link, frames) => judge_pack(&basis, *link, frames.list()),
+        Move::Round(orders) => judge_round(&basis, orders.list()),
+        Move::Follow(known, weaker) => judge_follow(&basis, known.decision(), weaker.decision()),
     }
 }
 
 /// By the arc of a decision of the view.
-fn judge_go(view: &View<'_>, decision: Decision) -> Result<Shown, Wrong>
-    requires sound { IsSound view.now }
-    requires possible { view.now.crossed ≡ false }
-    ensures { (clauses : List (List ModelFact)) → JudgesMove view.now.timing.now clauses (view_of view.now) (go decision) result }
+fn judge_go(basis: &Basis<'_>, decision: Decision) -> Result<Shown, Wrong>
+    requires sound { IsSound basis.now.view.now }
+    requires possible { basis.now.view.now.crossed ≡ false }
+    ensures { Judges basis.now (go decision) result }
 {
-    let _cycle = view.timing.cycle();
+    let view = basis.view;
     let arc = arc_in(view, decision)?;
-    Ok(Shown {
-        first: News::From(arc.to, view.low.at(arc.from) + arc.weight as i128),
-        second: Some(News::Until(arc.from, view.high.at(arc.to) - arc.weight as i128)),
-    })
+    let first = News::From(arc.to, basis.least(arc.from) + arc.weight as i128);
+    let second = News::Until(arc.from, basis.greatest(arc.to) - arc.weight as i128);
+    Ok(basis.two(first, second))
 }
 
 /// By the arc of the other side, which is out of reach.
-fn judge_turn(view: &View<'_>, decision: Decision) -> Result<Shown, Wrong>
-    requires sound { IsSound view.now }
-    requires possible { view.now.crossed ≡ false }
-    ensures { (clauses : List (List ModelFact)) → JudgesMove view.now.timing.now clauses (view_of view.now) (turn decision) result }
+fn judge_turn(basis: &Basis<'_>, decision: Decision) -> Result<Shown, Wrong>
+    requires sound { IsSound basis.now.view.now }
+    requires possible { basis.now.view.now.crossed ≡ false }
+    ensures { Judges basis.now (turn decision) result }
 {
+    let view = basis.view;
     if !is_conflict(view.timing, decision.triple) {
         return Err(Wrong::NoConflict(decision));
     }
-    let _cycle = view.timing.cycle();
-    let arc = arc_of(view.timing, turned(decision));
-    let least = view.low.at(arc.from) + arc.weight as i128;
-    let most = view.high.at(arc.to);
+    let arc = arc_at(view, turned(decision));
+    let least = basis.least(arc.from) + arc.weight as i128;
+    let most = basis.greatest(arc.to);
     if least > most {
-        Ok(Shown::one(News::Order(decision)))
+        Ok(basis.one(News::Order(decision)))
     } else {
         let stream = arc.to;
         Err(Wrong::InReach {
@@ -97,29 +175,31 @@ fn judge_turn(view: &View<'_>, decision: Decision) -> Result<Shown, Wrong>
 }
 
 /// What refutes the view.
-fn refuting(view: &View<'_>) -> News
-    requires sound { IsSound view.now }
-    requires possible { view.now.crossed ≡ false }
-    ensures { news_of result ≡ refuting (view_of view.now) }
+#[tactic(auto, unfolding(tsn_model::specs::Argument::refuting))]
+fn refuting(basis: &Basis<'_>) -> News
+    requires sound { IsSound basis.now.view.now }
+    requires possible { basis.now.view.now.crossed ≡ false }
+    ensures value { news_of result ≡ refuting (view_of basis.now.view.now) }
+    ensures fact { IsFact basis.now.view.now.timing.now (news_of result) }
 {
-    let _cycle = view.timing.cycle();
-    News::DoneFrom(view.done.high + 1)
+    News::DoneFrom(basis.greatest_done() + 1)
 }
 
 /// The fact that is left of a clause.
-fn judge_use(view: &View<'_>, clauses: &[&Clause], number: usize) -> Result<Shown, Wrong>
-    requires sound { IsSound view.now }
-    requires possible { view.now.crossed ≡ false }
-    requires facts { AreFacts view.now.timing.now (clauses_of clauses.now) }
-    ensures { JudgesMove view.now.timing.now (clauses_of clauses.now) (view_of view.now) (apply number) result }
+fn judge_use(basis: &Basis<'_>, number: usize) -> Result<Shown, Wrong>
+    requires sound { IsSound basis.now.view.now }
+    requires possible { basis.now.view.now.crossed ≡ false }
+    requires facts { AreFacts basis.now.view.now.timing.now (clauses_of basis.now.clauses.now) }
+    ensures { Judges basis.now (apply number) result }
 {
+    let Basis { view, clauses } = *basis;
     if number >= clauses.len() {
         let shown = clauses.len();
         return Err(Wrong::NoClause { number, shown });
     }
     match unit_of(view, number, clauses[number].list()) {
-        Ok(Some(fact)) => Ok(Shown::one(News::of(fact))),
-        Ok(None) => Ok(Shown::one(refuting(view))),
+        Ok(Some(fact)) => Ok(basis.one(News::of(fact))),
+        Ok(None) => Ok(basis.one(refuting(basis))),
         Err(wrong) => Err(wrong),
     }
 }
@@ -156,20 +236,19 @@ fn count_left(view: &View<'_>, clause: &[Fact]) -> usize
     left
 }
 
-fn judge_arrive(view: &View<'_>, stream: usize) -> Result<Shown, Wrong>
-    requires sound { IsSound view.now }
-    requires possible { view.now.crossed ≡ false }
-    ensures { (clauses : List (List ModelFact)) → JudgesMove view.now.timing.now clauses (view_of view.now) (arrive stream) result }
+fn judge_arrive(basis: &Basis<'_>, stream: usize) -> Result<Shown, Wrong>
+    requires sound { IsSound basis.now.view.now }
+    requires possible { basis.now.view.now.crossed ≡ false }
+    ensures { Judges basis.now (arrive stream) result }
 {
+    let view = basis.view;
     if stream >= view.timing.streams() {
         return Err(Wrong::NoStream(stream));
     }
-    let _cycle = view.timing.cycle();
     let arrival = view.timing.arrival(stream) as i128;
-    Ok(Shown {
-        first: News::DoneFrom(view.low.at(stream) + arrival),
-        second: Some(News::Until(stream, view.done.high - arrival)),
-    })
+    let first = News::DoneFrom(basis.least(stream) + arrival);
+    let second = News::Until(stream, basis.greatest_done() - arrival);
+    Ok(basis.two(first, second))
 }
 
 /// Whether the frames of a placing are right, whatever it comes to.
@@ -182,12 +261,12 @@ fn judge_placed(view: &View<'_>, placing: &Placing) -> Result<(), Wrong>
 }
 
 /// The frame goes last, since the others can't all be done before what they need together.
-fn judge_last(view: &View<'_>, placing: &Placing) -> Result<Shown, Wrong>
-    requires sound { IsSound view.now }
-    requires possible { view.now.crossed ≡ false }
-    ensures { (clauses : List (List ModelFact)) → JudgesMove view.now.timing.now clauses (view_of view.now)
-        (put_last placing.now.link placing.now.frame placing.now.others placing.now.some) result }
+fn judge_last(basis: &Basis<'_>, placing: &Placing) -> Result<Shown, Wrong>
+    requires sound { IsSound basis.now.view.now }
+    requires possible { basis.now.view.now.crossed ≡ false }
+    ensures { Judges basis.now (put_last placing.now.link placing.now.frame placing.now.others placing.now.some) result }
 {
+    let view = basis.view;
     judge_placed(view, placing)?;
     let Placing { link, frame, .. } = *placing;
     let list = placing.others.list();
@@ -202,12 +281,12 @@ fn judge_last(view: &View<'_>, placing: &Placing) -> Result<Shown, Wrong>
 }
 
 /// The frame goes first, since the others can't all begin so late that it fits behind one of them.
-fn judge_first(view: &View<'_>, placing: &Placing) -> Result<Shown, Wrong>
-    requires sound { IsSound view.now }
-    requires possible { view.now.crossed ≡ false }
-    ensures { (clauses : List (List ModelFact)) → JudgesMove view.now.timing.now clauses (view_of view.now)
-        (put_first placing.now.link placing.now.frame placing.now.others placing.now.some) result }
+fn judge_first(basis: &Basis<'_>, placing: &Placing) -> Result<Shown, Wrong>
+    requires sound { IsSound basis.now.view.now }
+    requires possible { basis.now.view.now.crossed ≡ false }
+    ensures { Judges basis.now (put_first placing.now.link placing.now.frame placing.now.others placing.now.some) result }
 {
+    let view = basis.view;
     judge_placed(view, placing)?;
     let Placing { link, frame, .. } = *placing;
     let list = placing.others.list();
@@ -245,33 +324,35 @@ fn shown_without(
 }
 
 /// Whether the frames have no room on the link.
-fn judge_pack(view: &View<'_>, link: usize, frames: &[Frame]) -> Result<Shown, Wrong>
-    requires sound { IsSound view.now }
-    requires possible { view.now.crossed ≡ false }
+fn judge_pack(basis: &Basis<'_>, link: usize, frames: &[Frame]) -> Result<Shown, Wrong>
+    requires sound { IsSound basis.now.view.now }
+    requires possible { basis.now.view.now.crossed ≡ false }
     requires some { 1 ≤ length frames.now }
     requires few { length frames.now ≤ 1024 }
-    ensures { (clauses : List (List ModelFact)) → JudgesMove view.now.timing.now clauses (view_of view.now) (pack link frames.now) result }
+    ensures { Judges basis.now (pack link frames.now) result }
 {
+    let view = basis.view;
     let [first, others @ ..] = frames else {
         unreachable!();
     };
     judge_frames(view.timing, link, *first, others)?;
     let all = load_all(view, link, frames);
     let bound = all.head + all.work as i128;
-    shown_without(link, bound, all.end, false, refuting(view))
+    shown_without(link, bound, all.end, false, refuting(basis))
 }
 
 /// Whether the orders lead back to where they begin, and later than they began.
-fn judge_round(view: &View<'_>, orders: &[Order]) -> Result<Shown, Wrong>
-    requires sound { IsSound view.now }
-    requires possible { view.now.crossed ≡ false }
+fn judge_round(basis: &Basis<'_>, orders: &[Order]) -> Result<Shown, Wrong>
+    requires sound { IsSound basis.now.view.now }
+    requires possible { basis.now.view.now.crossed ≡ false }
     requires some { 1 ≤ length orders.now }
     requires few { length orders.now ≤ 128 }
-    ensures { (clauses : List (List ModelFact)) → JudgesMove view.now.timing.now clauses (view_of view.now) (round (map decision_of orders.now)) result }
+    ensures { Judges basis.now (round (map decision_of orders.now)) result }
 {
+    let view = basis.view;
     let weight = weight_round(view, orders)?;
     if weight > 0 {
-        Ok(Shown::one(refuting(view)))
+        Ok(basis.one(refuting(basis)))
     } else {
         Err(Wrong::Weight(weight))
     }
@@ -303,10 +384,11 @@ fn weight_round(view: &View<'_>, orders: &[Order]) -> Result<i64, Wrong>
 }
 
 /// By the arc of a decision of the view, which asks for no less than that of the other one does between the same streams.
-fn judge_follow(view: &View<'_>, known: Decision, weaker: Decision) -> Result<Shown, Wrong>
-    requires sound { IsSound view.now }
-    ensures { (clauses : List (List ModelFact)) → JudgesMove view.now.timing.now clauses (view_of view.now) (follow known weaker) result }
+fn judge_follow(basis: &Basis<'_>, known: Decision, weaker: Decision) -> Result<Shown, Wrong>
+    requires sound { IsSound basis.now.view.now }
+    ensures { Judges basis.now (follow known weaker) result }
 {
+    let view = basis.view;
     let arc = arc_in(view, known)?;
     if !is_conflict(view.timing, weaker.triple) {
         return Err(Wrong::NoConflict(weaker));
@@ -316,7 +398,7 @@ fn judge_follow(view: &View<'_>, known: Decision, weaker: Decision) -> Result<Sh
         return Err(Wrong::OfOthers);
     }
     if other.weight <= arc.weight {
-        Ok(Shown::one(News::Order(weaker)))
+        Ok(basis.one(News::Order(weaker)))
     } else {
         Err(Wrong::Stronger {
             decision: weaker,
@@ -333,13 +415,25 @@ fn are_alike(arc: Arc, other: Arc) -> bool
     arc.from == other.from && arc.to == other.to
 }
 
+/// What a decision on a conflict asks for.
+#[tactic(auto, using(crate::proofs::MotionLemmas::arc_there))]
+fn arc_at(view: &View<'_>, decision: Decision) -> Arc
+    requires { IsConflict view.now.timing.now decision.triple }
+    ensures is { result ≡ model_arc_of view.now.timing.now decision }
+    ensures from { result.from < stream_count view.now.timing.now }
+    ensures to { result.to < stream_count view.now.timing.now }
+    ensures small { IsSmall result }
+{
+    arc_of(view.timing, decision)
+}
+
 /// The arc of a decision that the view has.
 fn arc_in(view: &View<'_>, decision: Decision) -> Result<Arc, Wrong>
     requires sound { IsSound view.now }
     ensures { FindsArc view.now.timing.now (view_of view.now) decision result }
 {
     if view.orders.has(decision) {
-        Ok(arc_of(view.timing, decision))
+        Ok(arc_at(view, decision))
     } else {
         Err(Wrong::NoOrder(decision))
     }

@@ -1,6 +1,7 @@
 use Rattle.std.proofs.Common.{◌∷◌, true, inr, refl, ap, subst, arith}
 use Rattle.std.proofs.lemmas.Int.{ints}
 use Rattle.tsn_model.specs.Argument.{from, put_last, shown}
+use Rattle.tsn_argue.specs.Motion.{clauses_of}
 use Rattle.tsn_argue.specs.State.{view_of}
 use Rattle.tsn_argue.specs.Loads.{IsLoad}
 use Rattle.tsn_argue.proofs.PlacingLemmas.{frame_on, stream_there, others_on, all_on, some_on, judged_by}
@@ -20,9 +21,10 @@ visit_of-visit-requires c = frame_on _ _ _ _ c.in_ok-judge_placed.ensures.0
 
 pub returns : goal.returns
 unfolding shown
-returns c clauses =
-    let network = c.args.view.now.timing.now in
-    let view = view_of c.args.view.now in
+returns c =
+    let clauses = clauses_of c.args.basis.now.clauses.now in
+    let network = c.args.basis.now.view.now.timing.now in
+    let view = view_of c.args.basis.now.view.now in
     let link = c.args.placing.now.link in
     let frame = c.args.placing.now.frame in
     let right = c.in_ok-judge_placed.ensures in
