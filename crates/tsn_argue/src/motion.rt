@@ -342,6 +342,7 @@ fn judge_pack(basis: &Basis<'_>, link: usize, frames: &[Frame]) -> Result<Shown,
 }
 
 /// Whether the orders lead back to where they begin, and later than they began.
+#[tactic(auto, unfolding(tsn_model::specs::Argument::shown))]
 fn judge_round(basis: &Basis<'_>, orders: &[Order]) -> Result<Shown, Wrong>
     requires sound { IsSound basis.now.view.now }
     requires possible { basis.now.view.now.crossed ≡ false }
@@ -384,6 +385,7 @@ fn weight_round(view: &View<'_>, orders: &[Order]) -> Result<i64, Wrong>
 }
 
 /// By the arc of a decision of the view, which asks for no less than that of the other one does between the same streams.
+#[tactic(auto, unfolding(tsn_model::specs::Argument::shown))]
 fn judge_follow(basis: &Basis<'_>, known: Decision, weaker: Decision) -> Result<Shown, Wrong>
     requires sound { IsSound basis.now.view.now }
     ensures { Judges basis.now (follow known weaker) result }
