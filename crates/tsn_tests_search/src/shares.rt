@@ -292,8 +292,21 @@ fn tie_right<K: Named, R: Wait + Abort + AllocGlobal>(
     }
 }
 
+fn pair<K: Named, R: Abort + AllocGlobal>(
+    rt: &R,
+    first: Teller<K>,
+    second: Teller<K>,
+) -> Vec<Teller<K>>
+    ensures { result.items ≡ first ∷ second ∷ [] }
+{
+    let mut tellers = Vec::new(rt.alloc());
+    put(rt, &mut tellers, first);
+    put(rt, &mut tellers, second);
+    tellers
+}
+
 /// Gathers two tellers, the second one first.
-#[tactic(auto, using(crate::proofs::Solving::two_reversed, crate::proofs::Solving::two_even))]
+#[tactic(auto, using(crate::proofs::Solving::two_even))]
 fn gather_reversed<K: Named, R: Abort + AllocGlobal>(
     rt: &R,
     shared: Shared<K>,
@@ -304,10 +317,7 @@ fn gather_reversed<K: Named, R: Abort + AllocGlobal>(
     requires numbers { (zero.standing.number ≡ 0) × (one.standing.number ≡ 1) }
     requires even { IsEven zero × IsEven one }
 {
-    let mut tellers = Vec::new(rt.alloc());
-    put(rt, &mut tellers, one);
-    put(rt, &mut tellers, zero);
-    gather_unordered(shared, tellers)
+    gather_unordered(shared, pair(rt, one, zero))
 }
 
 fn certificate<R: Abort + AllocGlobal>(rt: &R, book: Book) -> Cert {
