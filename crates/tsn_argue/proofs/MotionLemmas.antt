@@ -18,7 +18,6 @@ use Rattle.tsn_cert.specs.Order.{decision_of}
 use Rattle.tsn_cert.specs.declared.order.Order.{Order}
 use Rattle.tsn_cert.specs.declared.fact.Fact.{Fact}
 use Rattle.std.specs.Borrow.{Bor}
-use Rattle.tsn_cert.specs.declared.fact.Clause.{Clause}
 use Rattle.std.proofs.lemmas.Option.{slice_get-get_or}
 use Rattle.tsn_argue.specs.declared.wrong.Wrong.{Wrong}
 use Rattle.tsn_argue.specs.declared.wrong.Wrong.TheVariants.{NotClosed}
@@ -247,15 +246,15 @@ two_facts network first second one other =
     All-cons (IsFact network) first (second ∷ []) one (All-cons (IsFact network) second [] other (All-nil (IsFact network)))
 
 -- the clause of a number
-module _ (clauses : List (Bor Clause)) (k : ℕ) (clause : Bor Clause) (below : k < length clauses) (is : clause ≡ get_or clauses k clause) where
+module _ (clauses : List (Bor (List Fact))) (k : ℕ) (clause : Bor (List Fact)) (below : k < length clauses) (is : clause ≡ get_or clauses k clause) where
   pub clause_there : clause_at (clauses_of clauses) k ≡ clause_of clause.now
-  clause_there = get_or-map (λ (each : Bor Clause). clause_of each.now) clauses k clause [] below ∙ ap (λ (each : Bor Clause). clause_of each.now) (sym is)
+  clause_there = get_or-map (λ (each : Bor (List Fact)). clause_of each.now) clauses k clause [] below ∙ ap (λ (each : Bor (List Fact)). clause_of each.now) (sym is)
 
-pub clause_facts : (network : Network) (clauses : List (Bor Clause)) (k : ℕ) (clause : Bor Clause) → k < length clauses → clause ≡ get_or clauses k clause
+pub clause_facts : (network : Network) (clauses : List (Bor (List Fact))) (k : ℕ) (clause : Bor (List Fact)) → k < length clauses → clause ≡ get_or clauses k clause
     → All (All (IsFact network)) (clauses_of clauses) → All (IsFact network) (clause_of clause.now)
 clause_facts network clauses k clause below is all =
-    subst (λ (each : Bor Clause). All (IsFact network) (clause_of each.now)) (sym is)
-    (All-unmap (All (IsFact network)) (λ (each : Bor Clause). clause_of each.now) clauses all k clause below)
+    subst (λ (each : Bor (List Fact)). All (IsFact network) (clause_of each.now)) (sym is)
+    (All-unmap (All (IsFact network)) (λ (each : Bor (List Fact)). clause_of each.now) clauses all k clause below)
 
 pub few_open : (view : View) (clause : List ModelFact) (fact : ModelFact) → left_open view clause ≡ fact ∷ [] → length (left_open view clause) ≤ 1
 few_open view clause fact is = let one = ap length is in omega (arith, one)

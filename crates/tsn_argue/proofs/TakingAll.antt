@@ -11,7 +11,6 @@ use Rattle.tsn_cert.specs.Fact.{clause_of}
 use Rattle.tsn_cert.specs.Move.{move_of}
 use Rattle.tsn_cert.specs.Argument.{step_of, steps_of}
 use Rattle.std.specs.Borrow.{Bor}
-use Rattle.tsn_cert.specs.declared.fact.Clause.{Clause}
 use Rattle.tsn_cert.specs.declared.fact.Fact.{Fact}
 use Rattle.tsn_cert.specs.declared.motion.Move.{Move}
 use Rattle.tsn_cert.specs.declared.step.Step.{Step}
@@ -294,6 +293,6 @@ pub moves_of : (old new : View) (clauses : List (List model.Fact)) (xs ys : List
     → TakesMoves old new clauses (map move_of xs) r → TakesMoves old new clauses (map move_of ys) r
 moves_of old new clauses xs ys r same taken = subst (λ zs. TakesMoves old new clauses (map move_of zs) r) same taken
 
-pub shown_by_of : (old new : View) (xs ys : List (Bor Clause)) (step : model.Step) (r : Result Unit Stop) → xs ≡ ys
+pub shown_by_of : (old new : View) (xs ys : List (Bor (List Fact))) (step : model.Step) (r : Result Unit Stop) → xs ≡ ys
     → ShowsStep old new (clauses_of xs) step r → ShowsStep old new (clauses_of ys) step r
 shown_by_of old new xs ys step r same shows = subst (λ zs. ShowsStep old new (clauses_of zs) step r) same shows

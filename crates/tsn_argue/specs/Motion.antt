@@ -11,7 +11,6 @@ use Rattle.tsn_model.specs.Arcs.{arc_of}
 use Rattle.tsn_model.specs.Argument as model
 use Rattle.tsn_model.specs.Argument.{IsFact, View, IsAllowed, shown, left_open, weight_by, AreOn, AreSome}
 use Rattle.tsn_cert.specs.Fact.{fact_of, clause_of}
-use Rattle.tsn_cert.specs.declared.fact.Clause.{Clause}
 use Rattle.tsn_cert.specs.declared.fact.Fact.{Fact}
 use Rattle.tsn_cert.specs.declared.motion.Placing.{Placing}
 use Rattle.tsn_argue.specs.News.{news_of}
@@ -33,7 +32,7 @@ abbrev pub facts_of : Shown → List model.Fact
 facts_of shown = news_of shown.first ∷ also shown.second
 
 -- the clauses that were shown are those that a list refers to
-abbrev pub clauses_of : List (Bor Clause) → List (List model.Fact)
+abbrev pub clauses_of : List (Bor (List Fact)) → List (List model.Fact)
 clauses_of clauses = map (λ clause. clause_of clause.now) clauses
 
 -- each fact of the clauses is of streams that are there and decisions on conflicts

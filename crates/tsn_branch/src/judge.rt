@@ -24,7 +24,7 @@ use crate::judgement::{Judgement, SplitPoint};
 use crate::loads::{FirstLoad, Loading, User, find_loads};
 use crate::tables::{Aim, Tables};
 use std::alloc::Global;
-use tsn_cert::{Chain, Entries, Leaf, LowerBound};
+use tsn_cert::{Chain, Entries, Entry, Leaf, LowerBound};
 use tsn_conflict::laws::parents_overlap_starts;
 use tsn_diff::{ArcStack, Feasibility, Least};
 use tsn_model::{Frame, NoMemory};
@@ -358,8 +358,8 @@ pub fn entries_of(alloc: Global, least: &Least, users: &[User]) -> Result<Entrie
             stream: user.stream,
             shift: 0,
         };
-        let entry = (frame, chain_to(alloc, least, user.stream)?);
-        list.push(entry).map_err(|_| NoMemory)?;
+        let chain = chain_to(alloc, least, user.stream)?;
+        list.push(Entry { frame, chain }).map_err(|_| NoMemory)?;
     }
     Ok(Entries::of(list))
 }

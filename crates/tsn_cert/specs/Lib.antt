@@ -3,7 +3,6 @@ pub mod Form
 pub mod Fault
 pub mod Plan
 pub mod Depths
-pub mod Entry
 pub mod Leaf
 pub mod Node
 pub mod Cert

@@ -4,7 +4,7 @@ ghost use Rattle.std.specs.List.{list_all};
 ghost use Rattle.tsn_cert.specs.Node.{tree_node};
 ghost use Rattle.tsn_cert.specs.Cert.{is_tie, are_of, format_number};
 
-use crate::chains::Chains;
+use crate::chain::Chains;
 use crate::leaf::{Leaf, LowerBound};
 use std::marker::Model;
 use tsn_model::Triple;

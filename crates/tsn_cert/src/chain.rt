@@ -1,8 +1,9 @@
-//! Chains: decisions of a path, each by its depth.
+//! Chains: decisions of a path, each by its depth; and the chains of a tie.
 ghost use Rattle.std.specs.Prelude.{◌≡◌, ◌≤◌, ◌<◌, length, slice_index_or, All, IfOk, IsTrue};
 ghost use Rattle.tsn_cert.specs.Json.{all_within};
 ghost use Rattle.tsn_cert.specs.Cert.{max_number};
 
+use crate::listed::Listed;
 use smallvec::SmallVec;
 use std::alloc::{AllocError, Global};
 use std::marker::Model;
@@ -10,6 +11,9 @@ use tsn_model::NoMemory;
 
 /// The most decisions in a chain.
 pub const MAX_CHAIN: usize = 128;
+
+/// The most chains of a tie.
+pub const MAX_CHAINS: usize = 128;
 
 /// The greatest number of a node in a file.
 pub const MAX_NUMBER: usize = 4_294_967_295;
@@ -101,6 +105,9 @@ impl Chain {
         }
     }
 }
+
+/// The chains of a tie, to the first streams in order: 1 to 128 of them.
+pub type Chains = Listed<Chain, MAX_CHAINS>;
 
 fn are_narrow(depths: &[usize]) -> bool
     ensures { IsTrue result → All (λ depth. depth ≤ MAX_NARROW) depths.now }

@@ -1,7 +1,7 @@
 //! What shows that a path of decisions needs no look.
 
 use crate::chain::Chain;
-use crate::entries::Entries;
+use crate::entry::Entries;
 
 /// Why no valid schedule on a path has a lesser flowspan than some bound. A chain names decisions of the path by their depths.
 #[derive(Drop)]

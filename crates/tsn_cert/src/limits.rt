@@ -3,6 +3,7 @@ ghost use Rattle.std.specs.Prelude.{◌≡◌};
 ghost use Rattle.tsn_cert.specs.Cert.{lag_fits, frame_fits};
 
 use crate::chain::MAX_NUMBER;
+use crate::limited::Limited;
 use tsn_model::Frame;
 
 /// The greatest size of a lag in a file, in nanoseconds.
@@ -23,4 +24,20 @@ pub fn frame_fits(frame: Frame) -> bool
     ensures { result ≡ frame_fits frame }
 {
     frame.stream <= MAX_NUMBER && frame.shift <= MAX_SHIFT
+}
+
+impl Limited for Frame {
+    ghost use Rattle.tsn_cert.specs.Cert.{frame_fits};
+    ghost use Rattle.tsn_cert.specs.Move.{frame_form, frame_value};
+
+    ghost form = { frame_form };
+
+    ghost within = { frame_fits };
+
+    ghost printed = { frame_value };
+
+    #[tactic(auto, using(crate::proofs::MoveLemmas::frame_back))]
+    fn fits(&self) -> bool {
+        frame_fits(*self)
+    }
 }

@@ -1,16 +1,20 @@
 //! Moves: the rules by which an argument goes on.
 ghost use Rattle.std.specs.Prelude.{◌≡◌, Some};
-ghost use Rattle.std.specs.List.{list_all};
 ghost use Rattle.tsn_cert.specs.declared.motion.Move.TheVariants as form;
-ghost use Rattle.tsn_cert.specs.Move.{placing_fits, placing_parts, placing_items, move_fits, move_in, move_value, moves_in, moves_value};
+ghost use Rattle.tsn_cert.specs.Move.{placing_fits, placing_parts, placing_items, move_fits, move_in, move_value};
 
 use crate::chain::MAX_NUMBER;
-use crate::limited::{Limited, all_fit};
+use crate::limited::Limited;
 use crate::limits;
+use crate::listed::{Listed, Sequence};
 use crate::order::{Order, Orders};
-use crate::step::Frames;
-use std::marker::Model;
 use tsn_model::Frame;
+
+/// The most frames of a move.
+pub const MAX_FRAMES: usize = 1024;
+
+/// Frames of a move.
+pub type Frames = Listed<Frame, MAX_FRAMES>;
 
 /// That a frame goes last or first on a link, of itself and others, and by which of the others its stream's offset is bounded.
 #[derive(Drop)]
@@ -99,47 +103,4 @@ impl Limited for Move {
 }
 
 /// The moves of a step, one after another.
-#[derive(Drop)]
-pub struct Moves {
-    list: Vec<Move>,
-}
-
-impl Model for Moves {
-    ghost use Rattle.std.specs.Prelude.{List};
-    ghost use Rattle.tsn_cert.specs.declared.motion.Move.{Move};
-
-    ghost Value = { List Move };
-
-    ghost view = { λ moves. moves.list.items };
-}
-
-impl Moves {
-    /// The moves of a list.
-    pub fn of(list: Vec<Move>) -> Moves
-        ensures { result ≡ list.items }
-    {
-        Moves { list }
-    }
-
-    /// The moves, one after another.
-    pub fn list(&self) -> &[Move]
-        ensures { result.now ≡ self.now }
-    {
-        self.list.as_slice()
-    }
-
-    /// Gives the moves back.
-    pub fn into_list(self) -> Vec<Move>
-        ensures { result.items ≡ self }
-    {
-        let Moves { list } = self;
-        list
-    }
-    /// Whether each number of the moves is within its limit.
-    pub(crate) fn fit(&self) -> bool
-        ensures fits { result ≡ list_all move_fits self.now }
-        ensures grammar { moves_in (moves_value self.now) ≡ Some self.now }
-    {
-        all_fit::<Move>(self.list())
-    }
-}
+pub type Moves = Sequence<Move>;

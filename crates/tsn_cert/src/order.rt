@@ -1,12 +1,11 @@
 //! Which of two frames goes first on a link, and lists of such orders.
-ghost use Rattle.std.specs.Prelude.{◌≡◌, ◌≤◌, length, Some};
-ghost use Rattle.std.specs.List.{list_all};
-ghost use Rattle.tsn_cert.specs.Order.{decision_of, order_fits, orders_of, orders_value};
+ghost use Rattle.std.specs.Prelude.{◌≡◌};
+ghost use Rattle.tsn_cert.specs.Order.{decision_of};
 
 use crate::chain::MAX_NUMBER;
-use crate::limited::{Limited, all_fit};
+use crate::limited::Limited;
 use crate::limits;
-use std::marker::Model;
+use crate::listed::Listed;
 use tsn_model::{Decision, Side, Triple};
 
 /// The most orders of a round.
@@ -68,54 +67,5 @@ impl Limited for Order {
     }
 }
 
-/// The orders of a round, one after another: 1 to 128 of them.
-#[derive(Drop)]
-pub struct Orders {
-    list: Vec<Order>,
-}
-
-impl Model for Orders {
-    ghost use Rattle.std.specs.Prelude.{◌≤◌, List, length};
-    ghost use Rattle.tsn_cert.specs.declared.order.Order.{Order};
-
-    ghost Value = { List Order };
-
-    ghost view = { λ orders. orders.list.items };
-
-    ghost invariant = { λ orders. (1 ≤ length orders.list.items) × (length orders.list.items ≤ 128) };
-}
-
-impl Orders {
-    /// The orders of a list.
-    pub fn of(list: Vec<Order>) -> Orders
-        requires some_order { 1 ≤ length list.items }
-        requires few_orders { length list.items ≤ MAX_ORDERS }
-        ensures { result ≡ list.items }
-    {
-        Orders { list }
-    }
-
-    /// The orders, one after another.
-    pub fn list(&self) -> &[Order]
-        ensures orders { result.now ≡ self.now }
-        ensures some_order { 1 ≤ length result.now }
-        ensures few_orders { length result.now ≤ MAX_ORDERS }
-    {
-        self.list.as_slice()
-    }
-
-    /// Gives the orders back.
-    pub fn into_list(self) -> Vec<Order>
-        ensures { result.items ≡ self }
-    {
-        let Orders { list } = self;
-        list
-    }
-    /// Whether each number of the orders is within its limit.
-    pub(crate) fn fit(&self) -> bool
-        ensures fits { result ≡ list_all order_fits self.now }
-        ensures grammar { orders_of (orders_value self.now) ≡ Some self.now }
-    {
-        all_fit::<Order>(self.list())
-    }
-}
+/// The orders of a round, one after another.
+pub type Orders = Listed<Order, MAX_ORDERS>;

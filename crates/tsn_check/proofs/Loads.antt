@@ -1,12 +1,12 @@
 -- The entries of a leaf over a whole link, taken one after another.
-use Rattle.std.proofs.Common.{◌≡◌, ◌≢◌, ℕ, zero, suc, ◌+◌, ◌<◌, ◌≤◌, List, [], ◌∷◌, ◌++◌, map, length, take, get_or, All, Any, ℤ, pos, ◌+ℤ◌, ◌-ℤ◌, ◌≤ℤ◌, ◌<ℤ◌, Bool, true, false, cond, Option, Some, None, MatchOption, Ok, ◌==◌, refl, sym, ap, ap₂, ◌∙◌, subst, arith, eqb-true, eq-eqb}
+use Rattle.std.proofs.Common.{◌≡◌, ◌≢◌, ℕ, zero, suc, ◌+◌, ◌<◌, ◌≤◌, List, [], ◌∷◌, ◌++◌, length, take, get_or, All, Any, ℤ, pos, ◌+ℤ◌, ◌-ℤ◌, ◌≤ℤ◌, ◌<ℤ◌, Bool, true, false, cond, Option, Some, None, MatchOption, Ok, ◌==◌, refl, sym, ap, ap₂, ◌∙◌, subst, arith, eqb-true, eq-eqb}
 use Rattle.std.specs.Prelude.{slice_get, int_lt, ◌&&◌}
 use Rattle.std.specs.Int.{int_min}
 use Rattle.std.specs.List.{list_any}
 use Rattle.std.proofs.lemmas.Bool.{false≢true, and_parts, and_from}
 use Rattle.std.proofs.lemmas.Int.{ints}
-use Rattle.std.proofs.lemmas.List.{get_or-map, length-map, length-append, length-take, take_more, take-map}
-use Rattle.std.proofs.lemmas.List.Elements.{All-map, All-push}
+use Rattle.std.proofs.lemmas.List.{length-append, length-take, take_more}
+use Rattle.std.proofs.lemmas.List.Elements.{All-push}
 use Rattle.std.proofs.lemmas.List.Folds.{Any-from_list_any, list_any_at}
 use Rattle.std.proofs.lemmas.List.Sums.{sum_by-append}
 use Rattle.std.proofs.lemmas.List.Quantifiers.{all_pairs_push}
@@ -16,7 +16,6 @@ use Rattle.tsn_model.specs.Network.{Network}
 use Rattle.tsn_model.specs.Timing.{occupancy, arrival}
 use Rattle.tsn_model.specs.Certificate.{Entry, load, IsFrameOn, begin_on, end_on, LeadsTo, AreEntries, sum_on, least, head_of, tail_of, work_of, busy_until, load_bound}
 use Rattle.tsn_model.proofs.Lists.{least-map_push, least-one}
-use Rattle.tsn_cert.specs.Entry.{tree_entry}
 use Rattle.tsn_check.specs.Faults.{IsWrongEntry, IsFirstWrong}
 use Rattle.tsn_check.specs.Steps.{IsRightEntry, IsLoad, FindsBound}
 use Rattle.tsn_check.specs.declared.load.LinkLoad.{LinkLoad}
@@ -27,8 +26,8 @@ use Rattle.tsn_check.specs.declared.why.NodeFault.{NodeFault}
 -- ---- a frame among others
 
 -- whether an entry is of the frame
-abbrev is_of : Frame → (Frame × List ℕ) → Bool
-is_of frame entry = entry.0.stream == frame.stream && entry.0.shift == frame.shift
+abbrev is_of : Frame → Entry → Bool
+is_of frame entry = entry.frame.stream == frame.stream && entry.frame.shift == frame.shift
 
 same_frame : (a b : Frame) → (a.stream == b.stream && a.shift == b.shift) ≡ true → a ≡ b
 same_frame a b e =
@@ -39,18 +38,14 @@ frame_same : (a b : Frame) → a ≡ b → (a.stream == b.stream && a.shift == b
 frame_same a b e =
     and_from (a.stream == b.stream) (a.shift == b.shift) (eq-eqb a.stream b.stream (ap (λ f. f.stream) e)) (eq-eqb a.shift b.shift (ap (λ f. f.shift) e))
 
-pub repeated : (entries : List (Frame × List ℕ)) (frame : Frame) → list_any (is_of frame) entries ≡ true
-    → Any (λ (other : Entry). other.frame ≡ frame) (map tree_entry entries)
+pub repeated : (entries : List Entry) (frame : Frame) → list_any (is_of frame) entries ≡ true → Any (λ (other : Entry). other.frame ≡ frame) entries
 repeated entries frame found =
     let at = Any-from_list_any (is_of frame) entries found in
-    let there = get_or-map tree_entry entries at.0 at.1 (tree_entry at.1) at.2 ∙ ap tree_entry at.3 in
-    (at.0, tree_entry at.1, omega (arith, at.2, length-map entries tree_entry), there, same_frame at.1.0 frame at.4)
+    (at.0, at.1, at.2, at.3, same_frame at.1.frame frame at.4)
 
-pub not_repeated : (entries : List (Frame × List ℕ)) (frame : Frame) → list_any (is_of frame) entries ≡ false
-    → All (λ (other : Entry). other.frame ≢ frame) (map tree_entry entries)
-not_repeated entries frame none =
-    All-map (λ (other : Entry). other.frame ≢ frame) tree_entry entries (λ k d below same.
-    false≢true (sym none ∙ list_any_at (is_of frame) entries k d below (frame_same (get_or entries k d).0 frame same)))
+pub not_repeated : (entries : List Entry) (frame : Frame) → list_any (is_of frame) entries ≡ false → All (λ (other : Entry). other.frame ≢ frame) entries
+not_repeated entries frame none = λ k d below same.
+    false≢true (sym none ∙ list_any_at (is_of frame) entries k d below (frame_same (get_or entries k d).frame frame same))
 
 -- ---- the least of some numbers
 
@@ -124,39 +119,34 @@ module _ (network : Network) (path : List Decision) (link : ℕ) where
 
   -- ---- and in the code
 
-  pub start_load : (entries : List (Frame × List ℕ)) (first : Frame × List ℕ) (all : LinkLoad) → 0 < length entries → first ≡ get_or entries 0 first → IsRightEntry network path link [] (tree_entry first)
-      → IsLoad network path link (tree_entry first ∷ []) all → AreEntries network path link (take 1 (map tree_entry entries)) × IsLoad network path link (take 1 (map tree_entry entries)) all
+  pub start_load : (entries : List Entry) (first : Entry) (all : LinkLoad) → 0 < length entries → first ≡ get_or entries 0 first
+      → IsRightEntry network path link [] first → IsLoad network path link (first ∷ []) all
+      → AreEntries network path link (take 1 entries) × IsLoad network path link (take 1 entries) all
   start_load [] first all some is right loaded = absurd (omega arith)
   start_load (entry ∷ entries) first all some is right loaded =
-      let both : AreEntries network path link (tree_entry first ∷ []) × IsLoad network path link (tree_entry first ∷ []) all = (entries_push [] (tree_entry first) no_entries right, loaded) in
-      subst (λ e. AreEntries network path link (tree_entry e ∷ []) × IsLoad network path link (tree_entry e ∷ []) all) is both
+      let both : AreEntries network path link (first ∷ []) × IsLoad network path link (first ∷ []) all = (entries_push [] first no_entries right, loaded) in
+      subst (λ e. AreEntries network path link (e ∷ []) × IsLoad network path link (e ∷ []) all) is both
 
-  pub more_load : (entries : List (Frame × List ℕ)) (k : ℕ) (next : Frame × List ℕ) (all found more : LinkLoad) → 0 < k → k < length entries → next ≡ get_or entries k next
-      → AreEntries network path link (take k (map tree_entry entries)) → IsLoad network path link (take k (map tree_entry entries)) all
-      → IsRightEntry network path link (map tree_entry (take k entries)) (tree_entry next) → IsLoad network path link (tree_entry next ∷ []) found
+  pub more_load : (entries : List Entry) (k : ℕ) (next : Entry) (all found more : LinkLoad) → 0 < k → k < length entries → next ≡ get_or entries k next
+      → AreEntries network path link (take k entries) → IsLoad network path link (take k entries) all
+      → IsRightEntry network path link (take k entries) next → IsLoad network path link (next ∷ []) found
       → more.head ≡ int_min all.head found.head → more.work ≡ all.work + found.work → more.tail ≡ int_min all.tail found.tail
-      → AreEntries network path link (take (k + 1) (map tree_entry entries)) × IsLoad network path link (take (k + 1) (map tree_entry entries)) more
+      → AreEntries network path link (take (k + 1) entries) × IsLoad network path link (take (k + 1) entries) more
   more_load entries k next all found more some below is are loaded right next_loaded head work tail =
-      let before = take k (map tree_entry entries) in
-      let longer : take (k + 1) (map tree_entry entries) ≡ before ++ tree_entry next ∷ [] = cc (
-        take_more (map tree_entry entries) k (tree_entry next)
-            (omega (arith, length-map entries tree_entry)),
-        get_or-map tree_entry entries k next (tree_entry next) below,
-      ) in
-      let behind : IsRightEntry network path link before (tree_entry next) = subst (λ es. IsRightEntry network path link es (tree_entry next)) (sym (take-map tree_entry k entries)) right in
-      let some_before : 0 < length before = omega (arith, length-take k (map tree_entry entries), length-map entries tree_entry) in (
-        subst (AreEntries network path link) (sym longer) (entries_push before (tree_entry next) are behind),
-        subst (λ es. IsLoad network path link es more) (sym longer) (load_push before (tree_entry next) all found more some_before loaded next_loaded head work tail),
+      let before = take k entries in
+      let longer : take (k + 1) entries ≡ before ++ next ∷ [] = take_more entries k next below ∙ ap (λ e. before ++ e ∷ []) (sym is) in
+      let some_before : 0 < length before = omega (arith, length-take k entries) in (
+        subst (AreEntries network path link) (sym longer) (entries_push before next are right),
+        subst (λ es. IsLoad network path link es more) (sym longer) (load_push before next all found more some_before loaded next_loaded head work tail),
       )
 
-  there_entry : (entries : List (Frame × List ℕ)) (k : ℕ) (d : Frame × List ℕ) → k < length entries → slice_get (map tree_entry entries) k ≡ Some (tree_entry (get_or entries k d))
+  there_entry : (entries : List Entry) (k : ℕ) (d : Entry) → k < length entries → slice_get entries k ≡ Some (get_or entries k d)
   there_entry [] k d below = absurd (omega arith)
   there_entry (entry ∷ entries) zero d below = refl
   there_entry (entry ∷ entries) (suc k) d below = there_entry entries k d (omega arith)
 
   -- the entry at k is the first that isn't right
-  pub wrong_there : (entries : List (Frame × List ℕ)) (k : ℕ) (next : Frame × List ℕ) (fault : NodeFault) → k < length entries → next ≡ get_or entries k next
-      → AreEntries network path link (take k (map tree_entry entries))
-      → IsWrongEntry network path link (map tree_entry (take k entries)) (tree_entry next) fault
-      → IsFirstWrong network path link (map tree_entry entries) fault
-  wrong_there entries k next fault below is right wrong = grind (arith, there_entry, take-map)
+  pub wrong_there : (entries : List Entry) (k : ℕ) (next : Entry) (fault : NodeFault) → k < length entries → next ≡ get_or entries k next
+      → AreEntries network path link (take k entries) → IsWrongEntry network path link (take k entries) next fault
+      → IsFirstWrong network path link entries fault
+  wrong_there entries k next fault below is right wrong = grind (arith, there_entry)

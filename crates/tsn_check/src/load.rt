@@ -1,10 +1,9 @@
 //! The entries of a leaf over a whole link: whether they are right, and what they come to.
-ghost use Rattle.std.specs.Prelude.{◌≡◌, ◌≤◌, ◌<◌, ◌+◌, ◌==◌, ◌&&◌, ℕ, map};
+ghost use Rattle.std.specs.Prelude.{◌≡◌, ◌≤◌, ◌<◌, ◌+◌, ◌==◌, ◌&&◌, ℕ};
 ghost use Rattle.std.specs.List.{list_any};
 ghost use Rattle.tsn_model.specs.Network.{stream_count, hop_count};
 ghost use Rattle.tsn_model.specs.Timing.{Sends, start};
 ghost use Rattle.tsn_model.specs.Certificate.{load, overload};
-ghost use Rattle.tsn_cert.specs.Entry.{tree_entry};
 ghost use Rattle.tsn_check.specs.Turns.{AreTurns, decisions};
 ghost use Rattle.tsn_check.specs.Steps.{FindsBound, FindsEntry, FindsLoad};
 
@@ -12,7 +11,7 @@ use crate::leaf::{below, sum_to};
 use crate::path::Turn;
 use crate::why::{NodeFault, Shortfall};
 use tsn_cert::plan::MAX_TIME;
-use tsn_cert::{Chain, Entries};
+use tsn_cert::{Entries, Entry};
 use tsn_model::Frame;
 use tsn_timing::Timing;
 
@@ -28,11 +27,18 @@ pub struct LinkLoad {
     pub tail: i64,
 }
 
-/// Whether one of the entries is of the frame.
-fn has_frame(entries: &[(Frame, Chain)], frame: Frame) -> bool
-    ensures { result ≡ list_any (λ entry. entry.0.stream == frame.stream && entry.0.shift == frame.shift) entries.now }
+/// Whether the entry is of the frame.
+fn is_of(entry: &Entry, frame: Frame) -> bool
+    ensures { result ≡ (entry.now.frame.stream == frame.stream && entry.now.frame.shift == frame.shift) }
 {
-    entries.iter().any(|entry| entry.0.stream == frame.stream && entry.0.shift == frame.shift)
+    entry.frame.stream == frame.stream && entry.frame.shift == frame.shift
+}
+
+/// Whether one of the entries is of the frame.
+fn has_frame(entries: &[Entry], frame: Frame) -> bool
+    ensures { result ≡ list_any (λ entry. entry.frame.stream == frame.stream && entry.frame.shift == frame.shift) entries.now }
+{
+    entries.iter().any(|entry| is_of(entry, frame))
 }
 
 /// When a frame starts on a hop of its stream, counted from its stream's offset, in nanoseconds.
@@ -53,13 +59,13 @@ fn entry_load(
     timing: &Timing,
     path: &[Turn],
     link: usize,
-    before: &[(Frame, Chain)],
-    entry: &(Frame, Chain),
+    before: &[Entry],
+    entry: &Entry,
 ) -> Result<LinkLoad, NodeFault>
     requires { AreTurns timing.now path.now }
-    ensures { FindsEntry timing.now (decisions path.now) link (map tree_entry before.now) (tree_entry entry.now) result }
+    ensures { FindsEntry timing.now (decisions path.now) link before.now entry.now result }
 {
-    let frame = entry.0;
+    let frame = entry.frame;
     let stream = frame.stream;
     if stream >= timing.streams() {
         return Err(NodeFault::NotOnLink);
@@ -73,7 +79,7 @@ fn entry_load(
     if has_frame(before, frame) {
         return Err(NodeFault::StreamRepeated);
     }
-    let sum = sum_to(timing, path, stream, &entry.1)?;
+    let sum = sum_to(timing, path, stream, &entry.chain)?;
     let begin = begin_of(timing, frame, hop);
     let work = timing.occupancy(stream, hop);
     Ok(LinkLoad {

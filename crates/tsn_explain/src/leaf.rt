@@ -29,8 +29,8 @@ pub fn load_of(node: &Node) -> Option<(usize, &Entries)> {
 /// The frames of entries.
 pub fn frames_of(alloc: Global, entries: &Entries) -> Result<Vec<Frame>, AllocError> {
     let mut frames = Vec::new(alloc);
-    for (frame, _) in entries.list() {
-        frames.push(*frame)?;
+    for entry in entries.list() {
+        frames.push(entry.frame)?;
     }
     Ok(frames)
 }

@@ -78,10 +78,11 @@ impl<'a> Path<'a> {
     /// What the entries of a leaf come to on a link.
     pub fn load(&self, link: usize, entries: &Entries) -> Load {
         let mut load = Load::none();
-        for (frame, chain) in entries.list() {
-            let least = self.offset(frame.stream, chain);
+        for entry in entries.list() {
+            let frame = entry.frame;
+            let least = self.offset(frame.stream, &entry.chain);
             let greatest = self.network.times(frame.stream).latest_offset;
-            load = load.with(self.network, link, *frame, (least, greatest));
+            load = load.with(self.network, link, frame, (least, greatest));
         }
         load
     }

@@ -6,7 +6,7 @@ use crate::view::{
     make_impossible, make_packing, make_placing, make_turn, make_use, narrow,
 };
 use std::alloc::{AllocError, Global};
-use tsn_cert::step::MAX_FRAMES;
+use tsn_cert::motion::MAX_FRAMES;
 use tsn_cert::{
     Argument, Clause, Fact, Frames, Goal, Move, Moves, Order, Orders, Placing as Placed, Step,
     Steps,

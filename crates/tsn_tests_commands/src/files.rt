@@ -5,7 +5,7 @@ use std::alloc::Global;
 use std::process::Abort;
 use std::test::Fail;
 use tsn_cert::{
-    Cert, Chain, Chains, Entries, Format, Leaf, LowerBound, Node, Nodes, Offsets, Plan,
+    Cert, Chain, Chains, Entries, Entry, Format, Leaf, LowerBound, Node, Nodes, Offsets, Plan,
 };
 use tsn_check::{CheckFault, check_plan};
 use tsn_codec::{cert_from_json, cert_to_json, plan_from_json, plan_to_json};
@@ -43,20 +43,24 @@ fn two_chains(alloc: Global) -> Result<Vec<Chain>, Fail>
     Ok(vec![in alloc; none, two]?)
 }
 
-fn two_entries(alloc: Global) -> Result<Vec<(Frame, Chain)>, Fail>
+fn two_entries(alloc: Global) -> Result<Vec<Entry>, Fail>
     ensures { IfOk result (λ list. length list.items ≡ 2) }
 {
-    let first = Frame {
-        stream: 3,
-        shift: 0,
+    let first = Entry {
+        frame: Frame {
+            stream: 3,
+            shift: 0,
+        },
+        chain: Chain::of(alloc, &[])?,
     };
-    let second = Frame {
-        stream: 5,
-        shift: 1000,
+    let second = Entry {
+        frame: Frame {
+            stream: 5,
+            shift: 1000,
+        },
+        chain: Chain::of(alloc, &[1, 0])?,
     };
-    let none = Chain::of(alloc, &[])?;
-    let two = Chain::of(alloc, &[1, 0])?;
-    Ok(vec![in alloc; (first, none), (second, two)]?)
+    Ok(vec![in alloc; first, second]?)
 }
 
 fn a_branch() -> Node {

@@ -13,7 +13,7 @@ use crate::list::{Element, array_of, few};
 use crate::tokens::{Tokens, Unread};
 use serde_json::{Value, json};
 use std::alloc::{AllocError, Global};
-use tsn_cert::step::MAX_FRAMES;
+use tsn_cert::motion::MAX_FRAMES;
 use tsn_cert::{Frames, Move, Order, Orders, Placing};
 use tsn_model::Frame;
 

@@ -3,17 +3,15 @@ ghost use Rattle.std.specs.Prelude.{◌≡◌};
 ghost use Rattle.std.specs.List.{list_all};
 ghost use Rattle.tsn_model.specs.Certificate.{load};
 ghost use Rattle.tsn_cert.specs.Json.{all_within};
-ghost use Rattle.tsn_cert.specs.Entry.{tree_entry};
 ghost use Rattle.tsn_cert.specs.Leaf.{bound_leaf, leaf_of};
 ghost use Rattle.tsn_cert.specs.Node.{tree_node};
 ghost use Rattle.tsn_cert.specs.Cert.{triple_fits, entry_fits, leaf_fits, node_fits, max_number, cert_fits};
 
 use crate::refused::{Excess, Key};
 use tsn_cert::chain::{Chain, MAX_NUMBER};
-use tsn_cert::entries::Entries;
 use tsn_cert::plan::MAX_TIME;
-use tsn_cert::{Cert, Leaf, LowerBound, Node, limits};
-use tsn_model::{Frame, Triple};
+use tsn_cert::{Cert, Entries, Entry, Leaf, LowerBound, Node, limits};
+use tsn_model::Triple;
 
 fn chain_fits(chain: &Chain) -> bool
     ensures { result ≡ all_within max_number chain.now }
@@ -21,14 +19,14 @@ fn chain_fits(chain: &Chain) -> bool
     chain.fits()
 }
 
-fn entry_fits(entry: &(Frame, Chain)) -> bool
-    ensures { result ≡ entry_fits (tree_entry entry.now) }
+fn entry_fits(entry: &Entry) -> bool
+    ensures { result ≡ entry_fits entry.now }
 {
-    limits::frame_fits(entry.0) && chain_fits(&entry.1)
+    limits::frame_fits(entry.frame) && chain_fits(&entry.chain)
 }
 
-fn entries_fit(entries: &[(Frame, Chain)]) -> bool
-    ensures { result ≡ list_all (λ entry. entry_fits (tree_entry entry)) entries.now }
+fn entries_fit(entries: &[Entry]) -> bool
+    ensures { result ≡ list_all entry_fits entries.now }
 {
     entries.iter().all(|entry| entry_fits(entry))
 }

@@ -4,7 +4,6 @@ ghost use Rattle.serde_json.specs.Data.{object, member, no_members, string};
 ghost use Rattle.serde_json.specs.View.{view};
 ghost use Rattle.tsn_model.specs.Certificate.{split_node, leaf_node, tie_node};
 ghost use Rattle.tsn_cert.specs.Json.{number_value, array_value};
-ghost use Rattle.tsn_cert.specs.Entry.{tree_entry};
 ghost use Rattle.tsn_cert.specs.Leaf.{bound_leaf, leaf_of};
 ghost use Rattle.tsn_cert.specs.Node.{tree_node};
 ghost use Rattle.tsn_cert.specs.Cert.{chain_list, chains_of, chains_value, entry_of, entry_list, entries_of, entry_value, entries_value, node_of, nodes_of, chain_value, leaf_value, tie_value, node_value, nodes_value};
@@ -13,11 +12,9 @@ use crate::document;
 use crate::list::array_of;
 use serde_json::{ToValue, Value, json};
 use std::alloc::{AllocError, Global};
-use tsn_cert::chain::{Chain, MAX_CHAIN};
-use tsn_cert::chains::Chains;
-use tsn_cert::entries::Entries;
-use tsn_cert::{Leaf, LowerBound, Node};
-use tsn_model::{Frame, Triple};
+use tsn_cert::chain::{Chain, Chains, MAX_CHAIN};
+use tsn_cert::{Entries, Entry, Leaf, LowerBound, Node};
+use tsn_model::Triple;
 
 pub(super) fn cert_value(
     alloc: Global,
@@ -139,21 +136,20 @@ fn chains_value(alloc: Global, chains: &Chains) -> Result<Value, AllocError>
     array_of::<Chain>(alloc, chains.list())
 }
 
-#[tactic(auto, using(crate::proofs::CertLemmas::entries_back))]
+#[tactic(auto, using(crate::proofs::CertLemmas::entries_back, crate::proofs::Elements::map_same))]
 fn entries_value(alloc: Global, entries: &Entries) -> Result<Value, AllocError>
     ensures value { IfOk result (λ v. view v ≡ entries_value entries.now) }
     ensures reads_back { OnOk result (entries_of (entries_value entries.now) ≡ Some entries.now) }
 {
-    array_of::<(Frame, Chain)>(alloc, entries.list())
+    array_of::<Entry>(alloc, entries.list())
 }
 
-pub(super) fn entry_value(alloc: Global, entry: &(Frame, Chain)) -> Result<Value, AllocError>
-    ensures value { IfOk result (λ v. view v ≡ entry_value (tree_entry entry.now)) }
-    ensures reads_back { OnOk result
-        (entry_of (entry_value (tree_entry entry.now)) ≡ Some (tree_entry entry.now)) }
+pub(super) fn entry_value(alloc: Global, entry: &Entry) -> Result<Value, AllocError>
+    ensures value { IfOk result (λ v. view v ≡ entry_value entry.now) }
+    ensures reads_back { OnOk result (entry_of (entry_value entry.now) ≡ Some entry.now) }
 {
-    let frame = entry.0;
-    let chain = chain_value(alloc, &entry.1)?;
+    let frame = entry.frame;
+    let chain = chain_value(alloc, &entry.chain)?;
     if frame.shift == 0 {
         json!(in alloc; [frame.stream, chain])
     } else {

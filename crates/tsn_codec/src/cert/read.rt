@@ -1,7 +1,6 @@
 //! The parts of a certificate, read from tokens.
 ghost use Rattle.std.specs.Prelude.{◌≡◌};
 ghost use Rattle.tsn_cert.specs.Form.{either_row, row_of};
-ghost use Rattle.tsn_cert.specs.Entry.{tree_entry};
 ghost use Rattle.tsn_cert.specs.Node.{tree_node};
 ghost use Rattle.tsn_cert.specs.Cert.{chain_form, chains_form, reason_row, triple_row, cycle_row, first_entry_row, later_entry_row, entry_form, entries_form, chain_value, entry_value, node_value, load_row, tie_row, tie_load_row, node_rows, node_form, nodes_form, format_form, format_numbered};
 ghost use Rattle.tsn_codec.specs.Takes.{Takes};
@@ -12,9 +11,8 @@ use crate::list::{Element, few, list};
 use crate::tokens::{Tokens, Unread};
 use serde_json::Value;
 use std::alloc::{AllocError, Global};
-use tsn_cert::chain::Chain;
-use tsn_cert::chains::{Chains, MAX_CHAINS};
-use tsn_cert::entries::{Entries, MAX_ENTRIES};
+use tsn_cert::chain::{Chain, Chains, MAX_CHAINS};
+use tsn_cert::entry::{Entries, Entry, MAX_ENTRIES};
 use tsn_cert::{Format, Leaf, LowerBound, Node, Nodes};
 use tsn_model::{Frame, Triple};
 
@@ -53,33 +51,35 @@ fn chains(tokens: &mut Tokens<'_>) -> Result<Chains, Unread>
 }
 
 // A chain, and a shift before it where that isn't 0, behind the stream of a frame, with the end of their array.
-fn entry(tokens: &mut Tokens<'_>, stream: usize) -> Result<(Frame, Chain), Unread>
-    ensures { Takes tree_entry result
+fn entry(tokens: &mut Tokens<'_>, stream: usize) -> Result<Entry, Unread>
+    ensures { Takes (λ entry. entry) result
         ((either_row (first_entry_row stream) (later_entry_row stream)).rest tokens.old) tokens.new }
 {
     let Some(shift) = tokens.number_or_open()? else {
         let chain = tokens.chain_behind()?;
         tokens.close_array()?;
-        return Ok((Frame { stream, shift: 0 }, chain));
+        let frame = Frame { stream, shift: 0 };
+        return Ok(Entry { frame, chain });
     };
     if shift == 0 {
         return Err(Unread::OtherForm);
     }
     let chain = tokens.chain()?;
     tokens.close_array()?;
-    Ok((Frame { stream, shift }, chain))
+    let frame = Frame { stream, shift };
+    Ok(Entry { frame, chain })
 }
 
-impl Element for (Frame, Chain) {
+impl Element for Entry {
     ghost use Rattle.tsn_model.specs.Certificate.{Entry};
 
     ghost Said = { Entry };
 
-    ghost seen = { tree_entry };
+    ghost seen = { λ entry. entry };
 
     ghost form = { entry_form };
 
-    fn take(tokens: &mut Tokens<'_>) -> Result<(Frame, Chain), Unread> {
+    fn take(tokens: &mut Tokens<'_>) -> Result<Entry, Unread> {
         tokens.open_array()?;
         let stream = tokens.index()?;
         entry(tokens, stream)
@@ -95,10 +95,11 @@ impl Element for (Frame, Chain) {
 }
 
 // Entries of a leaf.
+#[tactic(auto, using(crate::proofs::Elements::map_same))]
 fn entries(tokens: &mut Tokens<'_>) -> Result<Entries, Unread>
     ensures { Takes (λ entries. entries) result (entries_form.taken tokens.old) tokens.new }
 {
-    let found = few::<(Frame, Chain)>(tokens, MAX_ENTRIES)?;
+    let found = few::<Entry>(tokens, MAX_ENTRIES)?;
     Ok(Entries::of(found))
 }
 

@@ -99,9 +99,9 @@ fn entries_leaf<R: Abort + AllocGlobal>(
     entries: &Entries,
 ) -> String {
     let mut all = Vec::new(rt.alloc());
-    for (frame, chain) in entries.list() {
-        assert!(rt; frame.shift == 0);
-        all.push((frame.stream, depths(rt, chain)))
+    for entry in entries.list() {
+        assert!(rt; entry.frame.shift == 0);
+        all.push((entry.frame.stream, depths(rt, &entry.chain)))
             .expect(rt, "memory");
     }
     format!(in rt.alloc(); "{word} {link} {all:?}").expect(rt, "memory")

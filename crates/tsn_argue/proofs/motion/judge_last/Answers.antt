@@ -8,13 +8,13 @@ use Rattle.tsn_argue.proofs.PlacingLemmas.{frame_on, stream_there, others_on, al
 use Rattle.tsn_argue.proofs.motion.judge_last.Goals as goal
 
 pub load_all-others-requires-clause-on : goal.load_all-others-requires-clause-on
-load_all-others-requires-clause-on c = others_on _ _ _ _ c.in_ok-judge_placed.ensures.0 _ c.list-list.ensures.frames
+load_all-others-requires-clause-on c = others_on _ _ _ _ c.in_ok-judge_placed.ensures.0 _ c.list-list.ensures.parts
 
 pub load_with-all-requires-clause-on : goal.load_with-all-requires-clause-on
-load_with-all-requires-clause-on c = all_on _ _ _ _ c.in_ok-judge_placed.ensures.0 _ c.list-list.ensures.frames
+load_with-all-requires-clause-on c = all_on _ _ _ _ c.in_ok-judge_placed.ensures.0 _ c.list-list.ensures.parts
 
 pub load_all-some-requires-clause-on : goal.load_all-some-requires-clause-on
-load_all-some-requires-clause-on c = some_on _ _ _ _ c.in_ok-judge_placed.ensures.0 _ _ c.in_ok-judge_placed.ensures.1 c.list.ensures.frames
+load_all-some-requires-clause-on c = some_on _ _ _ _ c.in_ok-judge_placed.ensures.0 _ _ c.in_ok-judge_placed.ensures.1 c.list.ensures.parts
 
 pub visit_of-visit-requires : goal.visit_of-visit-requires
 visit_of-visit-requires c = frame_on _ _ _ _ c.in_ok-judge_placed.ensures.0
@@ -28,9 +28,9 @@ returns c =
     let link = c.args.placing.now.link in
     let frame = c.args.placing.now.frame in
     let right = c.in_ok-judge_placed.ensures in
-    let others = subst (λ fs. IsLoad network view link fs c.load_all-others.result) c.list-list.ensures.frames c.load_all-others.ensures in
-    let all = subst (λ fs. IsLoad network view link (frame ∷ fs) c.load_with-all.result) c.list-list.ensures.frames c.load_with-all.ensures in
-    let some = subst (λ fs. IsLoad network view link fs c.load_all-some.result) c.list.ensures.frames c.load_all-some.ensures in
+    let others = subst (λ fs. IsLoad network view link fs c.load_all-others.result) c.list-list.ensures.parts c.load_all-others.ensures in
+    let all = subst (λ fs. IsLoad network view link (frame ∷ fs) c.load_with-all.result) c.list-list.ensures.parts c.load_with-all.ensures in
+    let some = subst (λ fs. IsLoad network view link fs c.load_all-some.result) c.list.ensures.parts c.load_all-some.ensures in
     let visit = c.visit_of-visit.ensures in
     judged_by network clauses view (put_last link frame c.args.placing.now.others c.args.placing.now.some) link _ _ _ _ true _ _
     c.shown_without.result c.shown_without.ensures

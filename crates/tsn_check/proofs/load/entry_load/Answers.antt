@@ -4,18 +4,17 @@ use Rattle.std.proofs.lemmas.Result.{err_from_is_err_and}
 use Rattle.tsn_model.specs.Timing.{occupancy}
 use Rattle.tsn_model.specs.Certificate.{begin_on}
 use Rattle.tsn_model.proofs.Routes.{hop_on_found, hop_on_link}
-use Rattle.tsn_cert.specs.Entry.{tree_entry}
 use Rattle.tsn_check.specs.Turns.{decisions}
 use Rattle.tsn_check.proofs.Loads.{repeated, not_repeated, one_load}
 use Rattle.tsn_check.proofs.load.entry_load.Goals as goal
 
 pub returns-then-stream-streams : goal.returns-then-stream-streams
 returns-then-stream-streams c =
-    inl (omega arith)
+    rw (← c.entry.view_is) (inl (omega arith))
 
 pub returns-then-not-is_shift : goal.returns-then-not-is_shift
 returns-then-not-is_shift c =
-    (omega arith, c.if-not-is_shift.ensures)
+    rw (← c.entry.view_is) (omega arith, c.if-not-is_shift.ensures)
 
 pub returns-then-has_frame : goal.returns-then-has_frame
 returns-then-has_frame c = grind (arith, hop_on_found, repeated)
@@ -24,22 +23,22 @@ pub returns-in_err-sum : goal.returns-in_err-sum
 returns-in_err-sum c =
     let p = err_from_is_err_and c.from_residual.result c.from_residual.ensures.1 in
     let sent = c.if-not-is_shift.ensures in
-    let found = hop_on_found c.args.timing.now c.args.entry.now.0.stream c.args.link c.in-Some.hop (sym c.in-Some.ensures) in
+    let found = hop_on_found c.args.timing.now c.entry.inside.frame.stream c.args.link c.in-Some.hop (sym c.in-Some.ensures) in
     let broken = c.in_err-sum.ensures in
-    let others = not_repeated c.args.before.now c.args.entry.now.0 (sym c.has_frame.ensures ∙ c.if-has_frame.false) in
-    rw (p.1, p.2, broken.0) (record { sent = sent; uses = found.0 }, others, broken.1)
+    let others = not_repeated c.args.before.now c.entry.inside.frame (sym c.has_frame.ensures ∙ c.if-has_frame.false) in
+    rw (p.1, p.2, broken.0, ← c.entry.view_is) (record { sent = sent; uses = found.0 }, others, broken.1)
 
 pub begin_of-begin-requires-clause-hop : goal.begin_of-begin-requires-clause-hop
-begin_of-begin-requires-clause-hop c = (hop_on_found c.args.timing.now c.args.entry.now.0.stream c.args.link c.in-Some.hop (sym c.in-Some.ensures)).1
+begin_of-begin-requires-clause-hop c = (hop_on_found _ _ _ c.in-Some.hop (sym c.in-Some.ensures)).1
 
 pub occupancy-work-requires-clause-hop : goal.occupancy-work-requires-clause-hop
-occupancy-work-requires-clause-hop c = (hop_on_found c.args.timing.now c.args.entry.now.0.stream c.args.link c.in-Some.hop (sym c.in-Some.ensures)).1
+occupancy-work-requires-clause-hop c = (hop_on_found _ _ _ c.in-Some.hop (sym c.in-Some.ensures)).1
 
 pub returns : goal.returns
 unfolding begin_on
 returns c =
     let network = c.args.timing.now in
-    let frame = c.args.entry.now.0 in
+    let frame = c.entry.inside.frame in
     let sum = c.in_ok-sum.ensures in
     let stream = frame.stream in
     let sent = c.if-not-is_shift.ensures in
@@ -50,9 +49,10 @@ returns c =
     let works : c.occupancy-work.result ≡ occupancy network stream c.args.link = c.occupancy-work.ensures.value ∙ ap (occupancy network stream) same_link in
     let short_begin = c.begin_of-begin.ensures.bound in
     let short_work = c.occupancy-work.ensures.bound in
-    let short_end = c.arrival.ensures.bound in (
+    let short_end = c.arrival.ensures.bound in
+    rw (← c.entry.view_is) (
       record { on_link = record { sent = sent; uses = found.0 }; other_frame = others; leads = sum.leads },
-      one_load network (decisions c.args.path.now) c.args.link (tree_entry c.args.entry.now) _ c.in_ok-sum.sum c.begin_of-begin.result
+      one_load network (decisions c.args.path.now) c.args.link _ _ c.in_ok-sum.sum c.begin_of-begin.result
           c.occupancy-work.result c.arrival.result
           sum.adds begins works c.arrival.ensures.value sum.low sum.high short_begin short_work short_end
           (omega (arith, ints)) (omega (arith, ints)) (omega (arith, ints)),

@@ -1,9 +1,8 @@
-use Rattle.std.proofs.Common.{◌≡◌, map, ◌∙◌, subst, refl, arith, ℤ, pos, ◌+ℤ◌, ◌≤ℤ◌, to_z, of_z, w64}
+use Rattle.std.proofs.Common.{◌≡◌, ◌∙◌, subst, refl, arith, ℤ, pos, ◌+ℤ◌, ◌≤ℤ◌, to_z, of_z, w64}
 use Rattle.std.specs.Int.{int_min}
 use Rattle.std.proofs.lemmas.Int.{ints, to_z-of_z}
-use Rattle.std.proofs.lemmas.List.{length-map, length-take, take_all}
+use Rattle.std.proofs.lemmas.List.{length-take, take_all}
 use Rattle.std.proofs.lemmas.Result.{err_from_is_err_and}
-use Rattle.tsn_cert.specs.Entry.{tree_entry}
 use Rattle.tsn_check.specs.Turns.{decisions}
 use Rattle.tsn_check.specs.Faults.{IsFirstWrong}
 use Rattle.tsn_check.proofs.Loads.{no_entries, start_load, more_load, wrong_there}
@@ -23,18 +22,18 @@ returns-in_err-next c =
     let fault = c.in_err-next.field-0.0 in
     let wrong = wrong_there network path c.args.link c.list-list.result.now c.loop-number.number c.index-list-number.result fault (omega arith) c.index-list-number.is
     c.loop-number.invariant.right c.in_err-next.ensures in
-    rw (p.1, p.2) (subst (λ es. IsFirstWrong network path c.args.link es fault) c.list-list.ensures.entries wrong)
+    rw (p.1, p.2) (subst (λ es. IsFirstWrong network path c.args.link es fault) c.list-list.ensures.parts wrong)
 
 pub overflow_add-all : goal.overflow_add-all
 overflow_add-all c =
     let all = c.loop-number.invariant.loaded.short_work in
     let next = c.in_ok-next.ensures.1.short_work in
-    let few = c.list-list.ensures.few_entries in
-    omega (arith, length-take c.loop-number.number (map tree_entry c.list-list.result.now), length-map c.list-list.result.now tree_entry)
+    let few = c.list-list.ensures.few in
+    omega (arith, length-take c.loop-number.number c.list-list.result.now)
 
 pub loop-number-init : goal.loop-number-init
 loop-number-init c =
-    let found = start_load c.args.timing.now (decisions c.args.path.now) c.args.link c.list-list.result.now c.index-list-0.result c.in_ok-all.all c.list-list.ensures.some_entry c.index-list-0.is
+    let found = start_load c.args.timing.now (decisions c.args.path.now) c.args.link c.list-list.result.now c.index-list-0.result c.in_ok-all.all c.list-list.ensures.some c.index-list-0.is
     c.in_ok-all.ensures.0 c.in_ok-all.ensures.1 in
     record { right = found.0; loaded = found.1 }
 
@@ -52,7 +51,7 @@ loop-number-preserved c =
     record { right = found.0; loaded = found.1 }
 
 pub returns : goal.returns
-returns c = grind (arith, take_all, length-map, length-take)
+returns c = grind (arith, take_all, length-take)
 
 pub returns-in_err-all : goal.returns-in_err-all
 returns-in_err-all c =
@@ -60,6 +59,6 @@ returns-in_err-all c =
     let network = c.args.timing.now in
     let path = decisions c.args.path.now in
     let fault = c.in_err-all.field-0.0 in
-    let wrong = wrong_there network path c.args.link c.list-list.result.now 0 c.index-list-0.result fault c.list-list.ensures.some_entry c.index-list-0.is
+    let wrong = wrong_there network path c.args.link c.list-list.result.now 0 c.index-list-0.result fault c.list-list.ensures.some c.index-list-0.is
     (no_entries network path c.args.link) c.in_err-all.ensures in
-    rw (p.1, p.2) (subst (λ es. IsFirstWrong network path c.args.link es fault) c.list-list.ensures.entries wrong)
+    rw (p.1, p.2) (subst (λ es. IsFirstWrong network path c.args.link es fault) c.list-list.ensures.parts wrong)

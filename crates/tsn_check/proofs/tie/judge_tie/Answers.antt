@@ -25,8 +25,8 @@ returns-then-comes_after c proof target bounded judged =
     let path = decisions c.args.path.now in
     let proves = rw (c.in_ok-short.was, c.in_default-short.is) at judged in
     tie_made network path proof c.args.chains.now c.args.plan.now c.in-Schedule.flowspan c.in-Schedule.offsets c.in-Schedule.is c.requires.plan bounded proves
-    (subst (AreChains network path) c.list.ensures.chains c.in_ok-all_lead.ensures)
-    (subst (λ cs. ShowsAfter network path cs c.in-Schedule.offsets) c.list-2.ensures.chains (subst (ShowsAfter network path c.list-2.result.now) c.list-3.ensures c.if-comes_after.ensures))
+    (subst (AreChains network path) c.list.ensures.parts c.in_ok-all_lead.ensures)
+    (subst (λ cs. ShowsAfter network path cs c.in-Schedule.offsets) c.list-2.ensures.parts (subst (ShowsAfter network path c.list-2.result.now) c.list-3.ensures c.if-comes_after.ensures))
 
 pub returns-else-comes_after : goal.returns-else-comes_after
 returns-else-comes_after c proof target bounded judged =
@@ -34,8 +34,8 @@ returns-else-comes_after c proof target bounded judged =
     let path = decisions c.args.path.now in
     let proves = rw (c.in_ok-short.was, c.in_default-short.is) at judged in
     inr (inr (
-      subst (AreChains network path) c.list.ensures.chains c.in_ok-all_lead.ensures,
+      subst (AreChains network path) c.list.ensures.parts c.in_ok-all_lead.ensures,
       sooner_no_tie network path proof c.args.chains.now c.args.plan.now c.in-Schedule.flowspan c.in-Schedule.offsets c.in-Schedule.is c.requires.plan proves
           (λ after. c.if-comes_after.ensures (subst (ShowsAfter network path c.list-2.result.now) (sym c.list-3.ensures)
-          (subst (λ cs. ShowsAfter network path cs c.in-Schedule.offsets) (sym c.list-2.ensures.chains) after))),
+          (subst (λ cs. ShowsAfter network path cs c.in-Schedule.offsets) (sym c.list-2.ensures.parts) after))),
     ))

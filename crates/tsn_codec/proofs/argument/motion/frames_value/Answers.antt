@@ -4,5 +4,5 @@ use Rattle.tsn_codec.proofs.argument.motion.frames_value.Goals as goal
 
 pub returns-clause-reads_back : goal.returns-clause-reads_back
 returns-clause-reads_back c =
-    let is = c.list.ensures.frames in
-    back c.array_of.result (frames_back c.args.frames.now (rw is at c.list.ensures.some_frame) (rw is at c.list.ensures.few_frames))
+    let is = c.list.ensures.parts in
+    back c.array_of.result (frames_back c.args.frames.now (rw is at c.list.ensures.some) (rw is at c.list.ensures.few))

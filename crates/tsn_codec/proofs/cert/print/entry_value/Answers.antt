@@ -1,9 +1,8 @@
-use Rattle.tsn_cert.specs.Entry.{tree_entry}
 use Rattle.tsn_codec.proofs.CertLemmas.{entry_back}
 use Rattle.tsn_codec.proofs.cert.print.entry_value.Goals as goal
 
 pub returns-in-Ok-json-4-clause-reads_back : goal.returns-in-Ok-json-4-clause-reads_back
-returns-in-Ok-json-4-clause-reads_back c = entry_back (tree_entry c.args.entry.now) c.in_ok-chain.ensures.short
+returns-in-Ok-json-4-clause-reads_back c = rw (← c.entry.view_is) (entry_back _ c.in_ok-chain.ensures.short)
 
 pub returns-in-Ok-json-10-clause-reads_back : goal.returns-in-Ok-json-10-clause-reads_back
-returns-in-Ok-json-10-clause-reads_back c = entry_back (tree_entry c.args.entry.now) c.in_ok-chain.ensures.short
+returns-in-Ok-json-10-clause-reads_back c = rw (← c.entry.view_is) (entry_back _ c.in_ok-chain.ensures.short)
