@@ -1229,7 +1229,7 @@ def main():
         sys.exit(f"{rows.wrong} answers by hand are others")
     if "--told" not in sys.argv[1:]:
         with open(TABLE, "w") as file:
-            file.write("\n".join(rows.lines) + "\n")
+            file.write("\n".join([*rows.lines, "", f"rows {total}"]) + "\n")
 
 
 if __name__ == "__main__":

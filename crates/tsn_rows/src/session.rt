@@ -20,6 +20,19 @@ pub struct Tally {
 }
 
 impl Tally {
+    /// How many rows there are.
+    pub fn rows(self) -> u64 {
+        self.held.saturating_add(self.wrong)
+    }
+
+    /// With the rows of another table.
+    pub fn with(self, other: Tally) -> Tally {
+        Tally {
+            held: self.held.saturating_add(other.held),
+            wrong: self.wrong.saturating_add(other.wrong),
+        }
+    }
+
     fn count(&mut self, holds: bool) {
         if holds {
             self.held = self.held.saturating_add(1);
@@ -38,6 +51,8 @@ enum Part {
     Row,
     /// Rows of one line each.
     Table,
+    /// Nothing more: it has told how many rows it has.
+    Counted,
 }
 
 /// The run of a table.
@@ -61,11 +76,11 @@ pub struct Session<'a, R> {
 
 impl<'a, R: Files + Print + AllocGlobal + Threads + Wait + Sync> Session<'a, R> {
     /// A session before the first line of the table of this name.
-    pub fn new(rt: &'a R, name: &'a str, tally: Tally) -> Session<'a, R> {
+    pub fn new(rt: &'a R, name: &'a str) -> Session<'a, R> {
         Session {
             rt,
             name,
-            tally,
+            tally: Tally::default(),
             part: Part::Head,
             has_run: false,
             is_right: true,
@@ -86,7 +101,7 @@ impl<'a, R: Files + Print + AllocGlobal + Threads + Wait + Sync> Session<'a, R> 
                 self.complain(number, line, &fault)?;
             }
         }
-        if let Err(fault) = self.end() {
+        if let Err(fault) = self.end_table() {
             self.complain(number, "the end", &fault)?;
         }
         self.count_row();
@@ -108,8 +123,11 @@ impl<'a, R: Files + Print + AllocGlobal + Threads + Wait + Sync> Session<'a, R> 
     fn follow(&mut self, line: &'a str) -> Result<()> {
         let (mark, rest) = line.split_once(' ').unwrap_or((line, ""));
         let rest = rest.trim_ascii();
+        if mark.is_empty() || mark == "#" {
+            return Ok(());
+        }
+        ensure!(self.part != Part::Counted, "a line behind the number of rows");
         match mark {
-            "" | "#" => Ok(()),
             "row" => self.begin(Part::Row, rest),
             "table" => self.begin(Part::Table, rest),
             "file" => self.put_file(rest),
@@ -123,6 +141,7 @@ impl<'a, R: Files + Print + AllocGlobal + Threads + Wait + Sync> Session<'a, R> 
             "beginnings" => self.run_beginnings(rest),
             "fails" => self.run_failing(rest),
             "refused" => self.run_refused(rest),
+            "rows" => self.compare_count(rest),
             _ => bail!("a line of no kind"),
         }
     }
@@ -142,6 +161,22 @@ impl<'a, R: Files + Print + AllocGlobal + Threads + Wait + Sync> Session<'a, R> 
         self.words = words;
         self.varied = "";
         ended
+    }
+
+    // `COUNT`: so many rows are in the table, and none behind this.
+    fn compare_count(&mut self, count: &str) -> Result<()> {
+        self.begin(Part::Counted, "")?;
+        let told = count.parse::<u64>().context("no number of rows")?;
+        let found = self.tally.rows();
+        ensure!(told == found, "there are {found} rows");
+        Ok(())
+    }
+
+    // The last row has to be whole, and the table to tell how many it has.
+    fn end_table(&mut self) -> Result<()> {
+        self.end()?;
+        ensure!(self.part == Part::Counted, "no line tells how many rows there are");
+        Ok(())
     }
 
     // What a command came to has to be compared, and each row has to run one.
