@@ -20,7 +20,7 @@ use Rattle.tsn_cert.specs.declared.fault.FileFault.TheVariants.{WrongShape}
 use Rattle.tsn_cert.proofs.Says.{number_says, said_spelled}
 use Rattle.tsn_cert.proofs.SpelledLemmas.{converted_some}
 use Rattle.tsn_codec.specs.CertSays.{format_says, nodes_says}
-use Rattle.tsn_codec.specs.ArgumentSays.{goal_says, steps_says}
+use Rattle.tsn_cert.proofs.ArgumentSays.{goal_says, steps_says}
 use Rattle.tsn_codec.specs.Written.{ArePlain, HasAt, BeginsTree, BeginsArgument, EndsWithTarget, IsNoCertificate}
 use Rattle.tsn_codec.proofs.Objects.{put_all, object_spelled, cert_at, argument_at}
 use Rattle.tsn_codec.proofs.Pairs.{both_same}

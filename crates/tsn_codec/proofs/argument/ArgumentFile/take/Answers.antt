@@ -1,9 +1,9 @@
 use Rattle.std.proofs.Common.{◌≡◌, [], ◌∷◌, Some, codes, ap, ◌∙◌, arith, lit≤}
 use Rattle.serde_json.specs.Data.{object, no_members}
 use Rattle.tsn_cert.specs.Form.{number}
+use Rattle.tsn_cert.proofs.ArgumentSays.{goal_says, steps_says}
 use Rattle.tsn_cert.proofs.Says.{number_says, said_spelled}
 use Rattle.tsn_cert.specs.Argument.{goal_form, steps_form, argument_format}
-use Rattle.tsn_codec.specs.ArgumentSays.{goal_says, steps_says}
 use Rattle.tsn_codec.proofs.Objects.{put_all, object_spelled, argument_said}
 use Rattle.tsn_codec.proofs.argument.ArgumentFile.take.Goals as goal
 
