@@ -2,13 +2,13 @@
 use Rattle.std.proofs.Common.{◌≡◌, ◌≤◌, ◌+◌, ◌&&◌, not, is_some, subst, ℕ, Bool, cond, codes, zero, suc, refl, sym, ap, arith, List, [], ◌∷◌, ◌++◌, length, drop, min, true, false, Option, Some, None, true≢false, nat_lt, lt-ltb, length-append}
 use Rattle.std.specs.Prelude.{encode_utf8, slice_get}
 use Rattle.std.specs.Option.{option_map_or}
-use Rattle.std.specs.List.{find, fold, list_any}
+use Rattle.std.specs.List.{find, fold, list_all, list_any}
 use Rattle.std.specs.Str.{bytes_eq, chars}
 use Rattle.std.proofs.lemmas.Slice.Eq.{bytes_eq-Decides}
 use Rattle.clap.specs.Values.{refused_kind}
 use Rattle.clap.specs.ValueTests.{accepts}
 use Rattle.clap.specs.Facts.{parser_of_value, unwrap_or_range}
-use Rattle.clap.specs.Kinds.{Kinds, or_else, range_kinds, value_kinds}
+use Rattle.clap.specs.Kinds.{Kinds, check_kinds, or_else, range_kinds, value_kinds}
 use Rattle.clap.specs.Faults.{bundle_step_fault, check_fault, defaults_fault, flag_word_fault, flags_fault, level_fault, long_fault, option_fault, other_fault, positional_fault, react_fault, settle_fault, short_fault, step_fault, stray_fault, turn_fault, use_fault, values_fault, walk_fault, word_fault}
 use Rattle.clap.specs.Walk.{Held, Names, Outcome, Row, Rule, Step, Text, Waiting, Walk, action_of, after_flag, after_step, arg_by_id, arg_by_index, arg_by_long, arg_by_short, at_row, attached_value, bundle, bundle_met, bundle_step, count_of, default_rows, done, flag_met, has_row, idle, is_pending, long_met, more_values, most_values, new_count, next, option, option_met, option_word, plain, plain_word, positional, pushed, reacted, reading_by, refused, settled, settled_rows, short_met, short_or_plain, subcommand, subcommand_met, subcommand_or_other, takes_several, takes_values, to_positional, trailing, used, used_as, used_by_id, value, values_or_missing, waits, walked, walked_from, with_count, with_default, with_values, without, word_met, long_or_other}
 use Rattle.clap.specs.Lexer.{long_of, short_of}
@@ -27,13 +27,17 @@ pub each_append : {X : Type 0} (P : X → Type 0) (xs ys : List X) → Each P xs
 each_append P [] ys before behind = behind
 each_append P (x ∷ xs) ys before behind = (before.0, each_append P xs ys before.1 behind)
 
-each_as : {X : Type 0} (P Q : X → Type 0) (xs : List X) → ((x : X) → P x → Q x) → Each P xs → Each Q xs
+pub each_as : {X : Type 0} (P Q : X → Type 0) (xs : List X) → ((x : X) → P x → Q x) → Each P xs → Each Q xs
 each_as P Q [] step h = tt
 each_as P Q (x ∷ xs) step h = (step x h.0, each_as P Q xs step h.1)
 
 pub both_of : (a b : Bool) → (a && b) ≡ true → (a ≡ true) × (b ≡ true)
 both_of true b e = (refl, e)
 both_of false b e = absurd (true≢false (sym e))
+
+pub each_of : {X : Type 0} (p : X → Bool) (xs : List X) → list_all p xs ≡ true → Each (λ x. p x ≡ true) xs
+each_of p [] e = tt
+each_of p (x ∷ xs) e = let parts = both_of (p x) _ e in (parts.0, each_of p xs parts.1)
 
 some≢none : {X : Type 0} (x : X) → Some x ≡ None → ⊥
 some≢none x e = true≢false (ap is_some e)
@@ -52,6 +56,12 @@ found_one P p (y ∷ ys) x h found = go (p y) refl found (λ rest. found_one P p
 pub neither : (a b : Kinds) → or_else a b ≡ [] → (a ≡ []) × (b ≡ [])
 neither [] b e = (refl, e)
 neither (k ∷ ks) b e = cc
+
+pub checked : (a b d : Bool) → check_kinds a b d ≡ [] → (a ≡ false) × (b ≡ false) × (d ≡ false)
+checked true b d e = cc
+checked false true d e = cc
+checked false false true e = cc
+checked false false false e = (refl, refl, refl)
 
 pub accepted : (i : Bool) (p : ValueParser) (v : Text) → value_kinds i p v ≡ [] → accepts i p v ≡ true
 accepted i p v e = go (accepts i p v) refl e
@@ -151,10 +161,7 @@ module _ (id : Text) (Q : Text → Type 0) where
   used_as_good action.Append name how values rows new h = with_values_good name how CommandLine values rows (λ same. (new same).good) h
   used_as_good action.Count name how [] rows new h = with_count_good name how CommandLine (min (count_of name rows + 1) 255) (without name rows) (λ same. counts_not [] (new same)) (without_good name rows h)
   used_as_good action.Count name how (v ∷ vs) rows new h = with_values_good name how CommandLine (v ∷ vs) _ (λ same. (new same).good) (without_good name rows h)
-  used_as_good action.Help name how values rows new h = h
-  used_as_good action.HelpShort name how values rows new h = h
-  used_as_good action.HelpLong name how values rows new h = h
-  used_as_good action.Version name how values rows new h = h
+  used_as_good _ name how values rows new h = h
 
   use_accepted : (x : ArgAction) (again : Bool) (a : Rule) (values : List Text) (rows : List Row) → takes_word x ≡ true
       → Rattle.clap.specs.Faults.action_fault x again a values rows ≡ [] → values_fault a values ≡ []
@@ -162,11 +169,7 @@ module _ (id : Text) (Q : Text → Type 0) where
   use_accepted action.Append again a values rows set e = e
   use_accepted action.SetTrue again a values rows set e = (neither _ _ e).1
   use_accepted action.SetFalse again a values rows set e = (neither _ _ e).1
-  use_accepted action.Count again a values rows set e = absurd (true≢false (sym set))
-  use_accepted action.Help again a values rows set e = absurd (true≢false (sym set))
-  use_accepted action.HelpShort again a values rows set e = absurd (true≢false (sym set))
-  use_accepted action.HelpLong again a values rows set e = absurd (true≢false (sym set))
-  use_accepted action.Version again a values rows set e = absurd (true≢false (sym set))
+  use_accepted _ again a values rows set e = absurd (true≢false (sym set))
 
   use_new : (again : Bool) (a : Rule) (values : List Text) (rows : List Row) → Fit Q a → use_fault again a values rows ≡ [] → New Q (action_of a) (values_or_missing a values)
   use_new again a values rows fit e =

@@ -14,7 +14,7 @@ use Rattle.clap.specs.Takes.{is_given}
 use Rattle.clap.proofs.ValueTestLemmas.{accepts-Accepts}
 use Rattle.tsn_words.specs.Grammar as grammar
 use Rattle.tsn_words.specs.Grammar.{Each, HasArguments, HasWords, IsGiven, IsTaken, IsWhole, takes_word}
-use Rattle.tsn_words.proofs.Given.{Fit, FitsFor, Good, GoodFor, StopGood, both_of, defaults_good, each_append, found_one, neither, settled_good, walk_good}
+use Rattle.tsn_words.proofs.Given.{Fit, FitsFor, Good, GoodFor, StopGood, both_of, checked, defaults_good, each_append, each_of, found_one, neither, settled_good, walk_good}
 
 -- ---- one level
 
@@ -46,12 +46,6 @@ module _ (s : Shape) (names : Names) (words : List Text) (has : Bool) (below : K
       let walked = neither (walk_fault s names (walk_from nothing_held) words) _ e in
       (walk_good id Q s fits names words (walk_from nothing_held) walked.0 (tt, tt)).1
 
-checks : (a b c : Bool) → check_kinds a b c ≡ [] → (b ≡ false) × (c ≡ false)
-checks true b c e = cc
-checks false true c e = cc
-checks false false true e = cc
-checks false false false e = (refl, refl)
-
 none_of : (p : Rule → Bool) (xs : List Rule) → list_any p xs ≡ false → Each (λ a. p a ≡ false) xs
 none_of p [] e = tt
 none_of p (x ∷ xs) e = go (p x) refl e (λ rest. none_of p xs rest)
@@ -63,8 +57,8 @@ none_of p (x ∷ xs) e = go (p x) refl e (λ rest. none_of p xs rest)
 -- a command that is required is met
 command_met : (s : Shape) (rows : List Row) (has : Bool) → check_fault s rows has ≡ [] → (not has && s.subcommand_required) ≡ false
 command_met s rows has e =
-    (checks (not has && (s.arg_required_else_help && not (list_any (λ r. explicit_source r.source) rows))) (not has && s.subcommand_required)
-    (not (s.subcommand_negates_reqs && has) && list_any (λ a. a.required && not (is_given a.id rows)) s.rules) e).0
+    (checked (not has && (s.arg_required_else_help && not (list_any (λ r. explicit_source r.source) rows))) (not has && s.subcommand_required)
+    (not (s.subcommand_negates_reqs && has) && list_any (λ a. a.required && not (is_given a.id rows)) s.rules) e).1
 
 -- each argument that is required is given
 required : (s : Shape) (words : List Text) → s.subcommand_negates_reqs ≡ false → level_fault s [] nothing_held words false [] ≡ []
@@ -72,8 +66,8 @@ required : (s : Shape) (words : List Text) → s.subcommand_negates_reqs ≡ fal
 required s words negates e =
     let rows = rows_after s.rules [] words in
     let p : Rule → Bool = λ a. a.required && not (is_given a.id rows) in
-    let none = (checks (not false && (s.arg_required_else_help && not (list_any (λ r. explicit_source r.source) rows))) (not false && s.subcommand_required)
-    (not (s.subcommand_negates_reqs && false) && list_any p s.rules) (check_none s [] words false [] e)).1 in
+    let none = (checked (not false && (s.arg_required_else_help && not (list_any (λ r. explicit_source r.source) rows))) (not false && s.subcommand_required)
+    (not (s.subcommand_negates_reqs && false) && list_any p s.rules) (check_none s [] words false [] e)).2 in
     let any : list_any p s.rules ≡ false = rw negates at none in
     none_of p s.rules any
 
@@ -245,10 +239,6 @@ known s words other usual e =
     isnt false e = refl
 
 -- ---- the program
-
-each_of : {X : Type 0} (p : X → Bool) (xs : List X) → list_all p xs ≡ true → Each (λ x. p x ≡ true) xs
-each_of p [] e = tt
-each_of p (x ∷ xs) e = let parts = both_of (p x) _ e in (parts.0, each_of p xs parts.1)
 
 each_usual : Each (λ s. is_usual s ≡ true) (built grammar.tsn).subs
 each_usual = each_of is_usual (built grammar.tsn).subs refl

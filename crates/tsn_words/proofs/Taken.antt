@@ -19,7 +19,7 @@ use Rattle.clap.specs.declared.error.kind.ErrorKind.{ErrorKind}
 use Rattle.clap.specs.declared.error.kind.ErrorKind.TheVariants as error_kind
 use Rattle.tsn_words.specs.Grammar as grammar
 use Rattle.tsn_words.specs.Grammar.{Each}
-use Rattle.tsn_words.proofs.Given.{accepted, both_of, found_one, neither}
+use Rattle.tsn_words.proofs.Given.{accepted, both_of, checked, each_as, each_of, found_one, neither}
 
 pub both : (a b : Bool) → a ≡ true → b ≡ true → (a && b) ≡ true
 both true b e f = f
@@ -58,10 +58,7 @@ action_taken action.SetTrue again a vs rows e = set_taken again a vs rows e
 action_taken action.SetFalse again a vs rows e = set_taken again a vs rows e
 action_taken action.Append again a vs rows e = all_values a vs e
 action_taken action.Count again a vs rows e = count_taken a vs rows e
-action_taken action.Help again a vs rows e = absurd (kinds_some _ _ e)
-action_taken action.HelpShort again a vs rows e = absurd (kinds_some _ _ e)
-action_taken action.HelpLong again a vs rows e = absurd (kinds_some _ _ e)
-action_taken action.Version again a vs rows e = absurd (kinds_some _ _ e)
+action_taken _ again a vs rows e = absurd (kinds_some _ _ e)
 
 within : (least most n : ℕ) → range_kinds least most n ≡ [] → (least ≤ n) × (n ≤ most)
 within least most n e = go (nat_lt 0 least && n == 0) (least == most) (least == n) (nat_lt n least) (nat_lt most n) refl refl refl refl e
@@ -209,12 +206,6 @@ module _ (s : Shape) where
 
 -- ---- after the walk
 
-checked : (a b d : Bool) → check_kinds a b d ≡ [] → (a ≡ false) × (b ≡ false) × (d ≡ false)
-checked true b d e = absurd (kinds_some _ _ e)
-checked false true d e = absurd (kinds_some _ _ e)
-checked false false true e = absurd (kinds_some _ _ e)
-checked false false false e = (refl, refl, refl)
-
 help_unwanted : (has wants any : Bool) → (not has && (wants && not any)) ≡ false → (not wants || (has || any)) ≡ true
 help_unwanted true true any e = refl
 help_unwanted true false any e = refl
@@ -278,11 +269,10 @@ entered_taken a (Some p) free e = go (find (λ s. answers_to p.0 (label_of s)) a
     go (Some s) found e = level_taken s [] p.1 false [] (found_one IsFree (λ s. answers_to p.0 (label_of s)) a.subs s free found).0 e
 
 each_free : Each IsFree (built grammar.tsn).subs
-each_free = each_of (built grammar.tsn).subs refl
-  where
-    each_of : (xs : List Shape) → list_all (λ s. list_all default_passes s.rules && list_all (λ a. a.is_free) s.rules) xs ≡ true → Each IsFree xs
-    each_of [] e = tt
-    each_of (s ∷ rest) e = let parts = both_of _ _ e in (both_of (list_all default_passes s.rules) _ parts.0, each_of rest parts.1)
+each_free =
+    let is_free : Shape → Bool = λ s. list_all default_passes s.rules && list_all (λ a. a.is_free) s.rules in
+    each_as (λ s. is_free s ≡ true) IsFree (built grammar.tsn).subs (λ s. both_of (list_all default_passes s.rules) (list_all (λ a. a.is_free) s.rules))
+    (each_of is_free (built grammar.tsn).subs refl)
 
 -- words without a fault are taken
 pub taken : (words : List Text) → fault_of grammar.tsn words ≡ [] → takes grammar.tsn words ≡ true

@@ -1,9 +1,10 @@
 -- What `clap` is told of the table of commands, and what the reading of a command's words comes to.
 --     rule_by, app_by, with_form     an argument, and a command, as `clap` has them
---     IsReadAs                       what the values of a command's arguments are read as
+--     IsReadOf, IsMet, IsAskedBy, IsReadFrom      what was met of a command, and what its arguments' values are read as
 use Rattle.std.specs.Prelude.{Option, ◌≡◌, List, map, Some, Result, Ok, Err, true, false}
 use Rattle.std.specs.List.{fold}
-use Rattle.clap.specs.Words.{App, Row, Rule, Text, new_app, new_rule, with_rule, with_subcommand}
+use Rattle.clap.specs.Words.{App, Row, Rule, Text, found_of, new_app, new_rule, rows_of, with_rule, with_subcommand}
+use Rattle.clap.specs.declared.parser.matches.ArgMatches.{ArgMatches}
 use Rattle.clap.specs.declared.builder.ArgAction.TheVariants.{Set, Append}
 use Rattle.clap.specs.declared.builder.value_parser.ValueParser.TheVariants.{Unsigned}
 use Rattle.tsn_words.specs.declared.table.Takes.{Takes}
@@ -12,7 +13,7 @@ use Rattle.tsn_words.specs.declared.table.Argument.{Argument}
 use Rattle.tsn_words.specs.declared.table.Form.{Form}
 use Rattle.tsn_words.specs.declared.words.Words.{Words}
 use Rattle.tsn_words.specs.declared.words.WordsFault.{WordsFault}
-use Rattle.tsn_words.specs.Grammar.{IsAsked, IsRefused, file, flag, has_format, word_option}
+use Rattle.tsn_words.specs.Grammar.{HasCommand, IsAsked, IsRefused, file, flag, has_format, word_option}
 
 -- the rule of an argument of that name
 abbrev pub rule_for : Text → Takes → Rule
@@ -43,6 +44,13 @@ abbrev pub IsReadOf : Option (Text × List Row) → Result Words WordsFault → 
 IsReadOf found (Ok words) = IsAsked found words × (has_format found ≡ true)
 IsReadOf found (Err fault) = IsRefused fault → has_format found ≡ false
 
--- the same of a command of this name
-abbrev pub IsReadAs : Text → List Row → Result Words WordsFault → Type 0
-IsReadAs name rows result = IsReadOf (Some (name, rows)) result
+-- what was met of the command of this name has what the grammar requires
+abbrev pub IsMet : Text → ArgMatches → Type 0
+IsMet name words = HasCommand name (rows_of (found_of words))
+
+-- and what is made of it: the words that it asks for; and the same where they may be refused
+abbrev pub IsAskedBy : Text → ArgMatches → Words → Type 0
+IsAskedBy name words asked = IsAsked (Some (name, rows_of (found_of words))) asked
+
+abbrev pub IsReadFrom : Text → ArgMatches → Result Words WordsFault → Type 0
+IsReadFrom name words result = IsReadOf (Some (name, rows_of (found_of words))) result

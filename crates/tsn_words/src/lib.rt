@@ -5,6 +5,7 @@
 mod command;
 pub mod options;
 mod table;
+mod values;
 pub mod words;
 
 pub use command::words_from;

@@ -1,4 +1,6 @@
 //! What options choose, as words name it and calls take it: how a plan is searched for, and in which format an answer is printed.
+ghost use Rattle.std.specs.Prelude.{◌≡◌, option_map};
+ghost use Rattle.tsn_words.specs.Grammar.{gates_format, plan_search, replay_format, streams_format};
 
 /// How a plan is searched for.
 #[derive(Clone, Copy)]
@@ -44,4 +46,48 @@ pub enum StreamsFormat {
     Json,
     /// Comma-separated values.
     Csv,
+}
+
+// How a plan is searched for, where a word names that, or none does.
+pub(crate) fn plan_search(word: Option<&str>) -> Option<Method>
+    ensures { result ≡ plan_search (option_map (λ word. word.now) word.entry) }
+{
+    match word {
+        None | Some("auto") => Some(Method::Auto),
+        Some("file") => Some(Method::FileOrder),
+        Some("learn") => Some(Method::Learn),
+        Some(_) => None,
+    }
+}
+
+pub(crate) fn gates_format(word: Option<&str>) -> Option<GatesFormat>
+    ensures { result ≡ gates_format (option_map (λ word. word.now) word.entry) }
+{
+    match word {
+        None | Some("table") => Some(GatesFormat::Table),
+        Some("taprio") => Some(GatesFormat::Taprio),
+        Some("json") => Some(GatesFormat::Json),
+        Some(_) => None,
+    }
+}
+
+pub(crate) fn replay_format(word: Option<&str>) -> Option<ReplayFormat>
+    ensures { result ≡ replay_format (option_map (λ word. word.now) word.entry) }
+{
+    match word {
+        None | Some("table") => Some(ReplayFormat::Table),
+        Some("csv") => Some(ReplayFormat::Csv),
+        Some(_) => None,
+    }
+}
+
+pub(crate) fn streams_format(word: Option<&str>) -> Option<StreamsFormat>
+    ensures { result ≡ streams_format (option_map (λ word. word.now) word.entry) }
+{
+    match word {
+        None | Some("table") => Some(StreamsFormat::Table),
+        Some("json") => Some(StreamsFormat::Json),
+        Some("csv") => Some(StreamsFormat::Csv),
+        Some(_) => None,
+    }
 }

@@ -3,7 +3,7 @@ use Rattle.std.proofs.lemmas.List.Elements.{All-push}
 use Rattle.clap.specs.Words.{IsUnsignedIn}
 use Rattle.tsn_words.specs.declared.words.TheConstants.{MAX_OFFSET}
 use Rattle.tsn_words.proofs.Fronts.{more_values, one_within}
-use Rattle.tsn_words.proofs.command.offsets_of.Goals as goal
+use Rattle.tsn_words.proofs.values.offsets_of.Goals as goal
 
 pub unsigned_of-offset-requires : goal.unsigned_of-offset-requires
 unsigned_of-offset-requires c = one_within (λ word. word.now) (IsUnsignedIn 0 MAX_OFFSET) c.args.words.now c.loop-word.word-index _ c.loop-word-test.true c.requires

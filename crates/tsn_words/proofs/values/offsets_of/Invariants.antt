@@ -1,7 +1,7 @@
 use Rattle.std.proofs.Common.{◌≤◌, ◌≡◌, All, map, take}
 use Rattle.tsn_words.specs.Grammar.{number_of}
 use Rattle.tsn_words.specs.declared.words.TheConstants.{MAX_OFFSET}
-use Rattle.tsn_words.proofs.command.offsets_of.Given as goal
+use Rattle.tsn_words.proofs.values.offsets_of.Given as goal
 
 abbrev pub invariant-loop-word : goal.invariant-loop-word
 invariant-loop-word l = record {

@@ -5,7 +5,7 @@ use Rattle.clap.specs.Words.{IsUnsignedIn, Text, found_of, rows_of}
 use Rattle.clap.proofs.WalkLemmas.{raw_values-rows}
 use Rattle.tsn_words.specs.declared.words.TheConstants.{MAX_OFFSET}
 use Rattle.tsn_words.proofs.Getters.{all_got, are_numbers}
-use Rattle.tsn_words.proofs.command.valid_words.Goals as goal
+use Rattle.tsn_words.proofs.words.ValidWords.read.Goals as goal
 
 abbrev Has : Option (List Text) → Type 0
 Has o = MatchOption o ⊥ (λ words. (1 ≤ length words) × All (IsUnsignedIn 0 MAX_OFFSET) words)
