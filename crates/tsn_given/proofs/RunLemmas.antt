@@ -6,7 +6,7 @@ use Rattle.tsn_device.specs.declared.device.ReadFault.{ReadFault}
 use Rattle.tsn_device.specs.declared.device.ReadFault.TheVariants.{Broken, TooLong, Memory}
 use Rattle.tsn_device.specs.declared.run.TheConstants.{DEVICE}
 use Rattle.tsn_given.specs.Run.{AreUnwritten, BreaksOff, Command, Failures, IsLine, NoneFailed, Output, Reading, IsOutput, RunsOver, SinkRun, SourceRun, failed_after, failed_before, readings_of, reads_of, writes_of, writings_of}
-use Rattle.tsn_given.specs.Outcome.{ComesOver, ComesTo, IsWrittenAs, TellsFailures, output_of}
+use Rattle.tsn_given.specs.Outcome.{ComesOver, ComesTo, IsWrittenAs, TellsFailures}
 
 pub Keeps-same : (o : Option (List ℕ)) → Keeps o o
 Keeps-same None = tt
@@ -36,10 +36,6 @@ pub told_fault : {A : Type 0} (output : Result A ReadFault → Output) (outcome 
     → output (Err fault) ≡ output outcome
 told_fault output outcome fault is = ap output (sym is)
 
--- how a line tells a fault
-pub line_faults : TellsFaults output_of
-line_faults = record { too_long = (refl, refl); memory = (refl, refl) }
-
 -- none failed, so as many have failed as had before
 pub none_failed : (devices : List Failures) → NoneFailed devices → failed_after devices ≡ failed_before devices
 none_failed [] none = refl
@@ -50,7 +46,7 @@ none_failed (calls ∷ next ∷ devices) none =
     let before = sum_by-cons (λ (c : Failures). c.before) calls (next ∷ devices) in
     omega (arith, after, before, none.0, rest)
 
-broken_or_not : {A : Type 0} (outcome : Result A ReadFault) → (outcome ≡ Err Broken) ⊎ (outcome ≡ Err Broken → ⊥)
+pub broken_or_not : {A : Type 0} (outcome : Result A ReadFault) → (outcome ≡ Err Broken) ⊎ (outcome ≡ Err Broken → ⊥)
 broken_or_not (Ok value) = inr (λ is. cc)
 broken_or_not (Err TooLong) = inr (λ is. cc)
 broken_or_not (Err Memory) = inr (λ is. cc)
@@ -115,8 +111,3 @@ Appends-nothing (Some xs) = sym (append-nil xs)
 pub some_of : {X : Type 0} (found : Option X) (P : X → Type 0) → ((x : X) → found ≡ Some x → P x) → IfSome found P
 some_of None P all = tt
 some_of (Some x) P all = all x refl
-
--- the status that is told is that of the run
-pub runs_along : (command : Command) (sources : List SourceRun) (sinks : List SinkRun) (status told : ℕ) → told ≡ status → RunsOver command sources sinks status
-    → RunsOver command sources sinks told
-runs_along command sources sinks status told same runs = subst (λ s. RunsOver command sources sinks s) (sym same) runs

@@ -1,9 +1,9 @@
 -- What follows of a run over sources, and of one whose answer is told.
-use Rattle.std.proofs.Common.{◌≡◌, ◌≢◌, ◌++◌, ◌∷◌, [], ℕ, List, Bool, true, false, Option, Result, Ok, Err, IfOk, ap, ◌∙◌}
+use Rattle.std.proofs.Common.{◌≡◌, ◌≢◌, ◌++◌, ◌∷◌, [], ℕ, List, Bool, true, false, Option, Result, Ok, Err, IfOk}
 use Rattle.tsn_device.specs.declared.device.ReadFault.{ReadFault}
 use Rattle.tsn_given.specs.declared.answer.Answer.{Answer}
 use Rattle.tsn_device.specs.declared.run.TheConstants.{DEVICE}
-use Rattle.tsn_given.specs.Run.{Command, EndsOver, Output, SinkRun, SourceRun, source_over}
+use Rattle.tsn_given.specs.Run.{Command, EndsOver, SinkRun, SourceRun, source_over}
 use Rattle.tsn_given.specs.Said.{line_of, status_of}
 use Rattle.tsn_given.specs.Outcome.{EndsAs, IsOutputOf, IsWrittenAs, line_taken, outcome_of}
 use Rattle.tsn_given.proofs.LineLemmas.{ends_over, said_over}
@@ -34,18 +34,12 @@ pub told_over : (json : Bool) (command : Command) (sources : List SourceRun) (fi
 told_over false command sources files answer output status ends told = said_over command sources files answer output status ends told
 told_over true command sources files answer output status ends told = record { outcome = outcome_of answer; ends = ends; told = told }
 
--- what was written of an answer has its status
-pub status_told : (answer : Result Answer ReadFault) (sinks : List SinkRun) (status : ℕ) → IsWrittenAs IsOutputOf answer sinks status → status ≢ DEVICE
-    → status ≡ status_of (outcome_of answer)
-status_told answer sinks status written done = let whole = written.whole done in whole.2 ∙ ap (λ (o : Output). o.status) whole.1
-
--- and ends the run
+-- what was written of an answer ends the run
 pub ends_told : (command : Command) (sources : List SourceRun) (files : List SinkRun) (answer : Result Answer ReadFault) (output : SinkRun) (status : ℕ)
     → EndsOver command sources (files ++ line_taken (line_of (outcome_of answer)) ∷ []) (status_of (outcome_of answer))
     → IsWrittenAs IsOutputOf answer (output ∷ []) status → status ≢ DEVICE → EndsOver command sources (files ++ output ∷ []) status
 ends_told command sources files answer output status ends written done =
-    ends_over command sources files answer output status (λ broken. done (written.unread broken).0)
-    (λ device. done (status_told answer (output ∷ []) status written done ∙ device)) written ends done
+    ends_over command sources files answer output status (λ broken. done (written.unread broken).0) written ends done
 
 -- what follows of a value, where there was no error
 pub ok_along : {T E : Type 0} (result : Result T E) (P Q : T → Type 0) → IfOk result P → ((x : T) → P x → Q x) → IfOk result Q

@@ -1,26 +1,24 @@
 -- What is said of an outcome: its status, its line, and the parts of that.
 --     status_of                        its status
---     violation_text, node_text, cause_text     why offsets, a plan or a certificate are refused
+--     place_behind, place_of           the place of a fault
 --     said, line_of                    its line, without its end and with it
---     violation_code, code_of          the code of what is refused
---     violation_place, place_of        the place of a fault
+--     code_of                          the code of what is refused
 --     flowspan_of, settled_of          a flowspan, and a count
 --     stop_of                          what is known where the limit was met
-use Rattle.std.specs.Prelude.{ℕ, ℤ, pos, List, [], ◌∷◌, ◌++◌, codes, decimal, Option, Some, None, option_map, if◌then◌else◌}
+use Rattle.std.specs.Prelude.{ℕ, ℤ, pos, List, [], ◌∷◌, ◌++◌, codes, decimal, Option, Some, None, if◌then◌else◌}
 use Rattle.std.specs.Ordering.{int_eq}
 use Rattle.std.specs.Fmt.{signed_decimal}
 use Rattle.tsn_model.specs.declared.Violation.{Violation}
 use Rattle.tsn_model.specs.declared.Violation.TheVariants.{WrongCount, PastCycle, Overlap, Early, TooLate}
 use Rattle.tsn_net.specs.Fault.{code_text, fault_text, place_text}
 use Rattle.tsn_cert.specs.Fault as file
-use Rattle.tsn_check.specs.declared.fault.CheckFault.{CheckFault}
 use Rattle.tsn_check.specs.Numbers.{number_of, node_of}
 use Rattle.tsn_given.specs.declared.stop.Stop.{Stop}
 use Rattle.tsn_given.specs.declared.outcome.FileKind.{FileKind}
 use Rattle.tsn_given.specs.declared.outcome.FileKind.TheVariants as kind
 use Rattle.tsn_given.specs.declared.outcome.Outcome.{Outcome}
 use Rattle.tsn_given.specs.declared.outcome.Outcome.TheVariants.{Taken, Valid, NotValid, Optimal, NoSchedule, Stopped, Proved, Undercut, AcceptedOptimal, AcceptedFirst, AcceptedNone, RefusedNetwork, RefusedFile, RefusedPlan, RefusedCert, TooLong, NoMemory, Failed}
-use Rattle.tsn_given.specs.Stop.{span_text}
+use Rattle.tsn_given.specs.Stop.{span_or}
 
 abbrev pub status_of : Outcome → ℕ
 status_of Taken = 0
@@ -46,22 +44,13 @@ status_of Failed = 8
 abbrev pub lag_text : ℤ → List ℕ
 lag_text lag = if int_eq lag (pos 0) then [] else codes " " ++ signed_decimal lag
 
--- why the offsets are no valid schedule
-abbrev pub violation_text : Violation → List ℕ
-violation_text WrongCount = codes "V1"
-violation_text (PastCycle stream) = codes "V2 stream " ++ decimal stream
-violation_text (Overlap triple) = codes "V3 " ++ decimal triple.left ++ codes " " ++ decimal triple.right ++ codes " " ++ decimal triple.link ++ lag_text triple.lag
-violation_text (Early stream) = codes "V4 stream " ++ decimal stream
-violation_text (TooLate stream) = codes "V5 stream " ++ decimal stream
-
--- the node of a tree, or the step of an argument, at which a fault lies, if it lies at one
-abbrev pub node_text : Option ℕ → List ℕ
-node_text None = []
-node_text (Some node) = codes " node " ++ decimal node
-
--- a fault, told by its number and its node or step
-abbrev pub cause_text : CheckFault → List ℕ
-cause_text fault = codes "K" ++ decimal (number_of fault) ++ node_text (node_of fault)
+-- the numbers of the reasons why offsets are no valid schedule
+abbrev pub violation_number : Violation → ℕ
+violation_number WrongCount = 1
+violation_number (PastCycle stream) = 2
+violation_number (Overlap triple) = 3
+violation_number (Early stream) = 4
+violation_number (TooLate stream) = 5
 
 -- the kind of a file that is refused
 abbrev pub kind_text : FileKind → List ℕ
@@ -72,28 +61,46 @@ kind_text kind.Cert = codes "cert"
 abbrev pub count_text : ℕ → List ℕ
 count_text count = codes " settled " ++ decimal count
 
--- of what a plan is proved: its flowspan, or that there is no schedule
-abbrev pub proved_text : Option ℕ → List ℕ
-proved_text None = codes "no schedule"
-proved_text (Some span) = decimal span
+-- the place of a violation: its stream, or the two streams and the link of an overlap, and its lag, where that isn't 0; it has a text before it
+abbrev pub violation_behind : List ℕ → Violation → List ℕ
+violation_behind before WrongCount = []
+violation_behind before (PastCycle stream) = before ++ codes "stream " ++ decimal stream
+violation_behind before (Overlap triple) =
+    before ++ decimal triple.left ++ codes " " ++ decimal triple.right ++ codes " " ++ decimal triple.link ++ lag_text triple.lag
+violation_behind before (Early stream) = before ++ codes "stream " ++ decimal stream
+violation_behind before (TooLate stream) = before ++ codes "stream " ++ decimal stream
+
+-- the node of a tree, or the step of an argument, at which a fault lies, if it lies at one
+abbrev pub node_behind : List ℕ → Option ℕ → List ℕ
+node_behind before None = []
+node_behind before (Some node) = before ++ codes "node " ++ decimal node
+
+-- the place of a fault; of a plan or certificate file, which of them it is
+abbrev pub place_behind : List ℕ → Outcome → List ℕ
+place_behind before (NotValid violation) = violation_behind before violation
+place_behind before (RefusedNetwork fault) = before ++ place_text fault.place
+place_behind before (RefusedFile of_kind fault) = before ++ kind_text of_kind
+place_behind before (RefusedPlan fault) = node_behind before (node_of fault)
+place_behind before (RefusedCert fault) = node_behind before (node_of fault)
+place_behind before _ = []
 
 -- the line of an outcome, without its end
 abbrev pub said : Outcome → List ℕ
 said Taken = []
 said (Valid flowspan) = codes "valid flowspan " ++ decimal flowspan
-said (NotValid violation) = codes "not valid " ++ violation_text violation
+said (NotValid violation) = codes "not valid V" ++ decimal (violation_number violation) ++ violation_behind (codes " ") violation
 said (Optimal flowspan settled) = codes "optimal " ++ decimal flowspan ++ count_text settled
 said (NoSchedule settled) = codes "no schedule" ++ count_text settled
-said (Stopped known settled) = codes "stopped " ++ span_text known.best ++ count_text settled
-said (Proved stated settled) = codes "proved " ++ proved_text stated ++ count_text settled
-said (Undercut stated better settled) = codes "undercut " ++ span_text stated ++ codes " by " ++ decimal better ++ count_text settled
+said (Stopped known settled) = codes "stopped " ++ span_or (codes "none") known.best ++ count_text settled
+said (Proved stated settled) = codes "proved " ++ span_or (codes "no schedule") stated ++ count_text settled
+said (Undercut stated better settled) = codes "undercut " ++ span_or (codes "none") stated ++ codes " by " ++ decimal better ++ count_text settled
 said (AcceptedOptimal flowspan) = codes "accepted optimal " ++ decimal flowspan
 said (AcceptedFirst flowspan) = codes "accepted first " ++ decimal flowspan
 said AcceptedNone = codes "accepted no schedule"
 said (RefusedNetwork fault) = codes "refused " ++ fault_text fault
 said (RefusedFile of_kind fault) = codes "refused " ++ kind_text of_kind ++ codes " C" ++ decimal (file.number_of fault)
-said (RefusedPlan fault) = codes "plan refused " ++ cause_text fault
-said (RefusedCert fault) = codes "certificate refused " ++ cause_text fault
+said (RefusedPlan fault) = codes "plan refused K" ++ decimal (number_of fault) ++ node_behind (codes " ") (node_of fault)
+said (RefusedCert fault) = codes "certificate refused K" ++ decimal (number_of fault) ++ node_behind (codes " ") (node_of fault)
 said TooLong = codes "too long"
 said NoMemory = codes "no memory"
 said Failed = []
@@ -107,43 +114,22 @@ ended (c ∷ text) = (c ∷ text) ++ codes "\n"
 abbrev pub line_of : Outcome → List ℕ
 line_of outcome = ended (said outcome)
 
-abbrev pub violation_code : Violation → List ℕ
-violation_code WrongCount = codes "V1"
-violation_code (PastCycle stream) = codes "V2"
-violation_code (Overlap triple) = codes "V3"
-violation_code (Early stream) = codes "V4"
-violation_code (TooLate stream) = codes "V5"
-
 -- the code of what is refused
 abbrev pub code_of : Outcome → Option (List ℕ)
-code_of (NotValid violation) = Some (violation_code violation)
+code_of (NotValid violation) = Some (codes "V" ++ decimal (violation_number violation))
 code_of (RefusedNetwork fault) = Some (code_text fault.code)
 code_of (RefusedFile of_kind fault) = Some (codes "C" ++ decimal (file.number_of fault))
 code_of (RefusedPlan fault) = Some (codes "K" ++ decimal (number_of fault))
 code_of (RefusedCert fault) = Some (codes "K" ++ decimal (number_of fault))
 code_of _ = None
 
--- the place of a violation: its stream, or the two streams and the link of an overlap, and its lag, where that isn't 0
-abbrev pub violation_place : Violation → Option (List ℕ)
-violation_place WrongCount = None
-violation_place (PastCycle stream) = Some (codes "stream " ++ decimal stream)
-violation_place (Overlap triple) = Some (decimal triple.left ++ codes " " ++ decimal triple.right ++ codes " " ++ decimal triple.link ++ lag_text triple.lag)
-violation_place (Early stream) = Some (codes "stream " ++ decimal stream)
-violation_place (TooLate stream) = Some (codes "stream " ++ decimal stream)
+-- a text, where it isn't empty
+abbrev pub text_if : List ℕ → Option (List ℕ)
+text_if [] = None
+text_if (c ∷ text) = Some (c ∷ text)
 
--- the node or the step of a fault
-abbrev pub node_place : Option ℕ → Option (List ℕ)
-node_place None = None
-node_place (Some node) = Some (codes "node " ++ decimal node)
-
--- the place of a fault; of a plan or certificate file, which of them it is
 abbrev pub place_of : Outcome → Option (List ℕ)
-place_of (NotValid violation) = violation_place violation
-place_of (RefusedNetwork fault) = Some (place_text fault.place)
-place_of (RefusedFile of_kind fault) = Some (kind_text of_kind)
-place_of (RefusedPlan fault) = node_place (node_of fault)
-place_of (RefusedCert fault) = node_place (node_of fault)
-place_of _ = None
+place_of outcome = text_if (place_behind [] outcome)
 
 -- the flowspan of the schedule; of an undercut plan and the better one, that of the better one
 abbrev pub flowspan_of : Outcome → Option ℕ

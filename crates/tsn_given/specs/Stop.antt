@@ -1,14 +1,15 @@
 -- What is known where a search was stopped.
+--     span_or         a number of nanoseconds, or these words
 --     is_least        whether the best schedule is known to be the least
 --     known_text      the line on it, by whether it is
 --     stop_text       the line on it
 use Rattle.std.specs.Prelude.{ℕ, List, ◌++◌, codes, decimal, nat_eq, Bool, true, false, Option, Some, None}
 use Rattle.tsn_given.specs.declared.stop.Stop.{Stop}
 
--- a number of nanoseconds, if there is one
-abbrev pub span_text : Option ℕ → List ℕ
-span_text None = codes "none"
-span_text (Some span) = decimal span
+-- a number of nanoseconds, if there is one, and else these words
+abbrev pub span_or : List ℕ → Option ℕ → List ℕ
+span_or words None = words
+span_or words (Some span) = decimal span
 
 -- the best schedule is known to be the least: none finishes before it
 abbrev pub is_least : Option ℕ → ℕ → Bool
@@ -22,7 +23,7 @@ bound_text true bound writer = decimal bound ++ (codes ": that is the least flow
 
 abbrev pub known_text : Bool → Option ℕ → ℕ → List ℕ → List ℕ
 known_text least best bound writer =
-    codes "best " ++ (span_text best ++ (codes ", and no schedule finishes before " ++ bound_text least bound writer))
+    codes "best " ++ (span_or (codes "none") best ++ (codes ", and no schedule finishes before " ++ bound_text least bound writer))
 
 -- the line, without its end
 abbrev pub stop_text : Stop → List ℕ → List ℕ

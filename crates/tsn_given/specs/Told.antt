@@ -1,20 +1,15 @@
 -- An outcome as a line of JSON.
---     text_or_null, line_or_null, number_or_null     a value that may be absent
+--     text_or_null, number_or_null     a value that may be absent
 --     told_object, told_value, told_text             the object, and its line
 use Rattle.std.specs.Prelude.{ℕ, List, [], ◌∷◌, ◌++◌, codes, Option, Some, None}
 use Rattle.serde_json.specs.Data.{Data, null, number, unsigned, string, object, no_members, member}
 use Rattle.serde_json.specs.Written.{compact_text}
 use Rattle.tsn_given.specs.declared.outcome.Outcome.{Outcome}
-use Rattle.tsn_given.specs.Said.{code_of, flowspan_of, place_of, said, settled_of, status_of}
+use Rattle.tsn_given.specs.Said.{code_of, flowspan_of, place_of, said, settled_of, status_of, text_if}
 
 abbrev pub text_or_null : Option (List ℕ) → Data
 text_or_null (Some text) = string text
 text_or_null None = null
-
--- a line, which is empty where there is none
-abbrev pub line_or_null : List ℕ → Data
-line_or_null [] = null
-line_or_null (c ∷ line) = string (c ∷ line)
 
 abbrev pub number_or_null : Option ℕ → Data
 number_or_null (Some n) = number (unsigned n)
@@ -30,7 +25,7 @@ told_object outcome code line place reason =
 -- what isn't there is null
 abbrev pub told_value : Outcome → Option (List ℕ) → Data
 told_value outcome reason =
-    told_object outcome (text_or_null (code_of outcome)) (line_or_null (said outcome)) (text_or_null (place_of outcome)) (text_or_null reason)
+    told_object outcome (text_or_null (code_of outcome)) (text_or_null (text_if (said outcome))) (text_or_null (place_of outcome)) (text_or_null reason)
 
 -- a value as JSON with no space, and a line feed
 abbrev pub line_text : Data → List ℕ

@@ -5,7 +5,7 @@ use std::alloc::{AllocError, Global};
 use std::fmt;
 use std::rt::Files;
 use tsn_device::are_one_file;
-use tsn_words::{PlanWords, ProveWords, Words};
+use tsn_words::Words;
 
 // A file that a run reads or writes: the option and the word that name it, and its path.
 #[derive(Clone, Copy)]
@@ -22,56 +22,26 @@ impl fmt::Display for Named<'_> {
     }
 }
 
-// The files that a run reads and those that it writes.
-#[derive(Clone, Copy)]
-struct NamedFiles<'a> {
-    network: Named<'a>,
-    given: Option<Named<'a>>,
-    plan: Option<Named<'a>>,
-    cert: Option<Named<'a>>,
-}
-
 /// Why the words are refused, where they name a file twice.
 pub fn doubled_in<R: Files>(
     rt: &R,
     alloc: Global,
     words: &Words<'_>,
 ) -> Result<Option<String>, AllocError> {
-    match words {
-        Words::Plan(words) => doubled(rt, alloc, plan_files(words)),
-        Words::Prove(words) => doubled(rt, alloc, prove_files(words)),
-        _ => Ok(None),
-    }
-}
-
-// Those of `plan`.
-fn plan_files<'a>(words: &PlanWords<'a>) -> NamedFiles<'a> {
-    NamedFiles {
-        network: network_of(words.network),
-        given: None,
-        plan: option_of("--plan ", words.plan),
-        cert: option_of("--cert ", words.cert),
-    }
-}
-
-// Those of `prove`.
-fn prove_files<'a>(words: &ProveWords<'a>) -> NamedFiles<'a> {
-    NamedFiles {
-        network: network_of(words.network),
-        given: option_of("", Some(words.given)),
-        plan: option_of("--plan ", words.plan),
-        cert: option_of("--cert ", words.cert),
-    }
-}
-
-// Why the words are refused, where a file that is to be written is named twice: as plan and certificate, or as one of these and
-// as a file that is read, or where standard output goes.
-fn doubled<R: Files>(
-    rt: &R,
-    alloc: Global,
-    files: NamedFiles<'_>,
-) -> Result<Option<String>, AllocError> {
-    for (left, right) in pairs(alloc, files)? {
+    let pairs = match words {
+        Words::Plan(words) => pairs(alloc, words.network, None, words.plan, words.cert),
+        Words::Prove(words) => {
+            pairs(
+                alloc,
+                words.network,
+                Some(words.given),
+                words.plan,
+                words.cert,
+            )
+        }
+        _ => return Ok(None),
+    };
+    for (left, right) in pairs? {
         if are_one_file(rt, alloc, left.path, right.path)? {
             let text = refusal(alloc, left, right)?;
             return Ok(Some(text));
@@ -86,47 +56,40 @@ fn refusal(alloc: Global, left: Named<'_>, right: Named<'_>) -> Result<String, A
     )
 }
 
-// The files that have to differ.
+// The files that have to differ: the plan and the certificate that are written, and each of these from what is read and from where
+// standard output goes.
 fn pairs<'a>(
     alloc: Global,
-    files: NamedFiles<'a>,
+    network: &'a str,
+    given: Option<&'a str>,
+    plan: Option<&'a str>,
+    cert: Option<&'a str>,
 ) -> Result<Vec<(Named<'a>, Named<'a>)>, AllocError> {
-    let output = Named {
-        option: "",
-        word: "standard output",
-        path: "/dev/stdout",
-    };
     let mut pairs = Vec::new(alloc);
-    if let (Some(plan), Some(cert)) = (files.plan, files.cert) {
-        pairs.push((plan, cert))?;
+    if let (Some(plan), Some(cert)) = (plan, cert) {
+        pairs.push((
+            file_of("--plan ", plan, plan),
+            file_of("--cert ", cert, cert),
+        ))?;
     }
-    for file in [files.plan, files.cert] {
-        if let Some(file) = file {
-            pairs.push((files.network, file))?;
-            if let Some(given) = files.given {
-                pairs.push((given, file))?;
+    for (option, word) in [("--plan ", plan), ("--cert ", cert)] {
+        if let Some(word) = word {
+            let file = file_of(option, word, word);
+            let input = if network == "-" {
+                "/dev/stdin"
+            } else {
+                network
+            };
+            pairs.push((file_of("", network, input), file))?;
+            if let Some(given) = given {
+                pairs.push((file_of("", given, given), file))?;
             }
-            pairs.push((file, output))?;
+            pairs.push((file, file_of("", "standard output", "/dev/stdout")))?;
         }
     }
     Ok(pairs)
 }
 
-fn network_of(word: &str) -> Named<'_> {
-    Named {
-        option: "",
-        word,
-        path: if word == "-" { "/dev/stdin" } else { word },
-    }
-}
-
-fn option_of<'a>(option: &'static str, word: Option<&'a str>) -> Option<Named<'a>> {
-    match word {
-        Some(word) => Some(Named {
-            option,
-            word,
-            path: word,
-        }),
-        None => None,
-    }
+fn file_of<'a>(option: &'static str, word: &'a str, path: &'a str) -> Named<'a> {
+    Named { option, word, path }
 }

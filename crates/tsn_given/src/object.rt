@@ -2,10 +2,10 @@
 ghost use Rattle.std.specs.Prelude.{◌≡◌, IfOk, false, option_map, string_bytes};
 ghost use Rattle.serde_json.specs.View.{view};
 ghost use Rattle.serde_json.specs.Written.{has_float};
-ghost use Rattle.tsn_given.specs.Said.{said};
-ghost use Rattle.tsn_given.specs.Told.{line_or_null, line_text, text_or_null, told_object, told_text, told_value};
+ghost use Rattle.tsn_given.specs.Told.{line_text, text_or_null, told_object, told_text, told_value};
 
 use crate::Outcome;
+use crate::outcome::text_if;
 use serde_json::{Value, json};
 use std::alloc::{AllocError, Global};
 use tsn_model::NoMemory;
@@ -35,40 +35,26 @@ fn line(alloc: Global, value: &Value) -> Result<String, AllocError>
     Ok(text)
 }
 
-// The values of an object that are texts.
-#[derive(Drop)]
-struct Texts {
-    code: Value,
-    line: Value,
-    place: Value,
-    reason: Value,
-}
-
 fn value_of(alloc: Global, outcome: Outcome, reason: Option<&str>) -> Result<Value, NoMemory>
     ensures { IfOk result (λ value. view value ≡ told_value outcome (option_map (λ text. text.now) reason.entry)) }
 {
     let code = owned_or_null(outcome.code(alloc)?);
-    let line = said_or_null(alloc, outcome)?;
+    let line = owned_or_null(text_if(format!(in alloc; "{outcome}")?));
     let place = owned_or_null(outcome.place(alloc)?);
     let reason = text_or_null(alloc, reason)?;
-    let texts = Texts {
-        code,
-        line,
-        place,
-        reason,
-    };
-    Ok(object(alloc, outcome, texts)?)
+    Ok(object(alloc, outcome, code, line, place, reason)?)
 }
 
-fn object(alloc: Global, outcome: Outcome, texts: Texts) -> Result<Value, AllocError>
-    ensures { IfOk result (λ value. view value ≡ told_object outcome (view texts.code) (view texts.line) (view texts.place) (view texts.reason)) }
+fn object(
+    alloc: Global,
+    outcome: Outcome,
+    code: Value,
+    line: Value,
+    place: Value,
+    reason: Value,
+) -> Result<Value, AllocError>
+    ensures { IfOk result (λ value. view value ≡ told_object outcome (view code) (view line) (view place) (view reason)) }
 {
-    let Texts {
-        code,
-        line,
-        place,
-        reason,
-    } = texts;
     let flowspan = outcome.flowspan();
     let settled = count_of(outcome.settled());
     let status = outcome.status();
@@ -91,18 +77,6 @@ fn count_of(count: Option<usize>) -> Option<u64>
         Some(count) => Some(count as u64),
         None => None,
     }
-}
-
-// The line of an outcome without its end, or null where nothing is said.
-#[tactic(auto, using(crate::proofs::Objects::line_not_empty))]
-fn said_or_null(alloc: Global, outcome: Outcome) -> Result<Value, AllocError>
-    ensures { IfOk result (λ value. view value ≡ line_or_null (said outcome)) }
-{
-    let line = format!(in alloc; "{outcome}")?;
-    if line.is_empty() {
-        return Ok(Value::Null);
-    }
-    Ok(Value::String(line))
 }
 
 fn owned_or_null(text: Option<String>) -> Value

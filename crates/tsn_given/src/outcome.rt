@@ -1,10 +1,9 @@
 //! What a command answers.
 ghost use Rattle.std.specs.Prelude.{◌≡◌, IfOk, Some, option_map, string_bytes};
-ghost use Rattle.tsn_check.specs.Numbers.{node_of};
-ghost use Rattle.tsn_given.specs.Said.{code_of, flowspan_of, line_of, node_place, place_of, settled_of, status_of, stop_of, violation_place};
+ghost use Rattle.tsn_given.specs.Said.{code_of, flowspan_of, line_of, place_of, settled_of, status_of, stop_of, text_if, violation_number};
 
 use crate::run::{DEVICE, DONE, MEMORY, NO_SCHEDULE, REFUSED, REJECTED, STOPPED};
-use crate::stop::{Span, Stop};
+use crate::stop::{SpanOr, Stop};
 use std::alloc::Global;
 use std::fmt;
 use tsn_cert::FileFault;
@@ -177,7 +176,7 @@ impl Outcome {
         ensures { IfOk result (λ code. option_map string_bytes code ≡ code_of self) }
     {
         let code = match self {
-            Outcome::NotValid(violation) => format!(in alloc; "{}", ViolationCode(violation))?,
+            Outcome::NotValid(violation) => format!(in alloc; "V{}", violation_number(violation))?,
             Outcome::RefusedNetwork(fault) => format!(in alloc; "{}", fault.code)?,
             Outcome::RefusedFile(_, fault) => format!(in alloc; "C{}", fault.number())?,
             Outcome::RefusedPlan(fault) | Outcome::RefusedCert(fault) => {
@@ -188,49 +187,31 @@ impl Outcome {
         Ok(Some(code))
     }
 
-    /// The place of a fault; of a plan or certificate file, which of them it is.
+    /// The place of a fault: a stream, two streams, their link and a lag that isn't 0, or a node or step; of a file, which of them it is.
     pub fn place(self, alloc: Global) -> Result<Option<String>, NoMemory>
         ensures { IfOk result (λ place. option_map string_bytes place ≡ place_of self) }
     {
-        match self {
-            Outcome::NotValid(violation) => violation_place(alloc, violation),
-            Outcome::RefusedNetwork(fault) => Ok(Some(format!(in alloc; "{}", fault.place)?)),
-            Outcome::RefusedFile(kind, _) => Ok(Some(format!(in alloc; "{kind}")?)),
-            Outcome::RefusedPlan(fault) | Outcome::RefusedCert(fault) => node_place(alloc, fault),
-            _ => Ok(None),
-        }
+        Ok(text_if(format!(in alloc; "{}", Place("", self))?))
     }
 }
 
-/// The place of a violation: its stream, or the two streams and the link of an overlap, and its lag, where that isn't 0.
-fn violation_place(alloc: Global, violation: Violation) -> Result<Option<String>, NoMemory>
-    ensures { IfOk result (λ place. option_map string_bytes place ≡ violation_place violation) }
+/// A text, where it isn't empty.
+#[tactic(auto, using(crate::proofs::SaidLemmas::some_text))]
+pub(crate) fn text_if(text: String) -> Option<String>
+    ensures { option_map string_bytes result ≡ text_if (string_bytes text) }
 {
-    let place = match violation {
-        Violation::WrongCount => return Ok(None),
-        Violation::PastCycle(stream) | Violation::Early(stream) | Violation::TooLate(stream) => {
-            format!(in alloc; "stream {stream}")?
-        }
-        Violation::Overlap(triple) => {
-            let Triple {
-                left,
-                right,
-                link,
-                lag,
-            } = triple;
-            format!(in alloc; "{left} {right} {link}{}", Behind(lag))?
-        }
-    };
-    Ok(Some(place))
+    if text.is_empty() { None } else { Some(text) }
 }
 
-/// The node or the step of a fault, if it lies at one.
-fn node_place(alloc: Global, fault: CheckFault) -> Result<Option<String>, NoMemory>
-    ensures { IfOk result (λ place. option_map string_bytes place ≡ node_place (node_of fault)) }
+fn violation_number(violation: Violation) -> u8
+    ensures { result ≡ violation_number violation }
 {
-    match fault.node() {
-        Some(node) => Ok(Some(format!(in alloc; "node {node}")?)),
-        None => Ok(None),
+    match violation {
+        Violation::WrongCount => 1,
+        Violation::PastCycle(_) => 2,
+        Violation::Overlap(_) => 3,
+        Violation::Early(_) => 4,
+        Violation::TooLate(_) => 5,
     }
 }
 
@@ -243,95 +224,90 @@ impl fmt::Display for Outcome {
         match *self {
             Outcome::Taken | Outcome::Failed => Ok(()),
             Outcome::Valid { flowspan } => write!(f, "valid flowspan {flowspan}"),
-            Outcome::NotValid(violation) => write!(f, "not valid {}", Reason(violation)),
+            Outcome::NotValid(violation) => {
+                let number = violation_number(violation);
+                write!(f, "not valid V{number}{}", Place(" ", *self))
+            }
             Outcome::Optimal { flowspan, settled } => write!(
                 f,
                 "optimal {flowspan} settled {settled}"
             ),
             Outcome::NoSchedule { settled } => write!(f, "no schedule settled {settled}"),
             Outcome::Stopped { known, settled } => {
-                write!(f, "stopped {} settled {settled}", Span(known.best))
+                write!(
+                    f,
+                    "stopped {} settled {settled}",
+                    SpanOr("none", known.best)
+                )
             }
             Outcome::Proved { stated, settled } => {
-                write!(f, "proved {} settled {settled}", Claim(stated))
+                write!(
+                    f,
+                    "proved {} settled {settled}",
+                    SpanOr("no schedule", stated)
+                )
             }
             Outcome::Undercut {
                 stated,
                 better,
                 settled,
-            } => write!(f, "undercut {} by {better} settled {settled}", Span(stated)),
+            } => {
+                let stated = SpanOr("none", stated);
+                write!(f, "undercut {stated} by {better} settled {settled}")
+            }
             Outcome::AcceptedOptimal { flowspan } => write!(f, "accepted optimal {flowspan}"),
             Outcome::AcceptedFirst { flowspan } => write!(f, "accepted first {flowspan}"),
             Outcome::AcceptedNone => write!(f, "accepted no schedule"),
             Outcome::RefusedNetwork(fault) => write!(f, "refused {fault}"),
             Outcome::RefusedFile(kind, fault) => write!(f, "refused {kind} C{}", fault.number()),
-            Outcome::RefusedPlan(fault) => write!(f, "plan refused {}", Cause(fault)),
-            Outcome::RefusedCert(fault) => write!(f, "certificate refused {}", Cause(fault)),
+            Outcome::RefusedPlan(fault) => {
+                let number = fault.number();
+                write!(f, "plan refused K{number}{}", Place(" ", *self))
+            }
+            Outcome::RefusedCert(fault) => {
+                let number = fault.number();
+                write!(f, "certificate refused K{number}{}", Place(" ", *self))
+            }
             Outcome::TooLong => write!(f, "too long"),
             Outcome::NoMemory => write!(f, "no memory"),
         }
     }
 }
 
-/// Of what a plan is proved: its flowspan, or that there is no schedule.
+/// The place of a fault behind a text; nothing where it has none.
 #[derive(Clone, Copy)]
-struct Claim(Option<u64>);
+struct Place(&'static str, Outcome);
 
-impl fmt::Display for Claim {
-    ghost use Rattle.tsn_given.specs.Said.{proved_text};
+impl fmt::Display for Place {
+    ghost use Rattle.tsn_given.specs.Said.{place_behind};
 
-    ghost output = { λ claim. Some (proved_text claim.0) };
+    ghost output = { λ place. Some (place_behind place.0.now place.1) };
 
     fn fmt<W: fmt::Write>(&self, f: &mut fmt::Formatter<W>) -> fmt::Result {
-        match self.0 {
-            Some(span) => write!(f, "{span}"),
-            None => write!(f, "no schedule"),
-        }
-    }
-}
-
-/// A fault of a plan or its certificate, printed with its number, and its node or step if it has one: `K1`, `K3 node 2`.
-#[derive(Clone, Copy)]
-struct Cause(CheckFault);
-
-impl fmt::Display for Cause {
-    ghost use Rattle.tsn_given.specs.Said.{cause_text};
-
-    ghost output = { λ cause. Some (cause_text cause.0) };
-
-    fn fmt<W: fmt::Write>(&self, f: &mut fmt::Formatter<W>) -> fmt::Result {
-        let number = self.0.number();
-        match self.0.node() {
-            Some(node) => write!(f, "K{number} node {node}"),
-            None => write!(f, "K{number}"),
-        }
-    }
-}
-
-/// A violation, printed with its number: `V1`, `V2 stream 0`, `V3 0 1 4`, `V3 0 1 4 -500`, `V4 stream 0`.
-#[derive(Clone, Copy)]
-struct Reason(Violation);
-
-impl fmt::Display for Reason {
-    ghost use Rattle.tsn_given.specs.Said.{violation_text};
-
-    ghost output = { λ reason. Some (violation_text reason.0) };
-
-    fn fmt<W: fmt::Write>(&self, f: &mut fmt::Formatter<W>) -> fmt::Result {
-        match self.0 {
-            Violation::WrongCount => write!(f, "V1"),
-            Violation::PastCycle(stream) => write!(f, "V2 stream {stream}"),
-            Violation::Overlap(triple) => {
-                let Triple {
-                    left,
-                    right,
-                    link,
-                    ..
-                } = triple;
-                write!(f, "V3 {left} {right} {link}{}", Behind(triple.lag))
-            }
-            Violation::Early(stream) => write!(f, "V4 stream {stream}"),
-            Violation::TooLate(stream) => write!(f, "V5 stream {stream}"),
+        let before = self.0;
+        match self.1 {
+            Outcome::NotValid(violation) => match violation {
+                Violation::WrongCount => Ok(()),
+                Violation::PastCycle(stream)
+                | Violation::Early(stream)
+                | Violation::TooLate(stream) => write!(f, "{before}stream {stream}"),
+                Violation::Overlap(triple) => {
+                    let Triple {
+                        left,
+                        right,
+                        link,
+                        ..
+                    } = triple;
+                    write!(f, "{before}{left} {right} {link}{}", Behind(triple.lag))
+                }
+            },
+            Outcome::RefusedNetwork(fault) => write!(f, "{before}{}", fault.place),
+            Outcome::RefusedFile(kind, _) => write!(f, "{before}{kind}"),
+            Outcome::RefusedPlan(fault) | Outcome::RefusedCert(fault) => match fault.node() {
+                Some(node) => write!(f, "{before}node {node}"),
+                None => Ok(()),
+            },
+            _ => Ok(()),
         }
     }
 }
@@ -350,25 +326,5 @@ impl fmt::Display for Behind {
             return Ok(());
         }
         write!(f, " {}", self.0)
-    }
-}
-
-/// The code of a violation.
-#[derive(Clone, Copy)]
-struct ViolationCode(Violation);
-
-impl fmt::Display for ViolationCode {
-    ghost use Rattle.tsn_given.specs.Said.{violation_code};
-
-    ghost output = { λ code. Some (violation_code code.0) };
-
-    fn fmt<W: fmt::Write>(&self, f: &mut fmt::Formatter<W>) -> fmt::Result {
-        match self.0 {
-            Violation::WrongCount => write!(f, "V1"),
-            Violation::PastCycle(_) => write!(f, "V2"),
-            Violation::Overlap(_) => write!(f, "V3"),
-            Violation::Early(_) => write!(f, "V4"),
-            Violation::TooLate(_) => write!(f, "V5"),
-        }
     }
 }

@@ -25,8 +25,7 @@ pub fn source_line<S: Opened>(
     match fault {
         Some(ReadFault::TooLong) => too_long_line(alloc, source.name(), source.count()),
         Some(ReadFault::Broken) => failure_line(alloc, DEVICE, source.failure()),
-        Some(ReadFault::Memory) => None,
-        None => None,
+        _ => None,
     }
 }
 
@@ -38,9 +37,7 @@ pub fn write_line(
 ) -> Option<String> {
     match fault {
         Some(ReadFault::Broken) => failure_line(alloc, DEVICE, failure),
-        Some(ReadFault::TooLong) => None,
-        Some(ReadFault::Memory) => None,
-        None => None,
+        _ => None,
     }
 }
 

@@ -1,6 +1,6 @@
 //! What is known where a search was stopped.
-ghost use Rattle.std.specs.Prelude.{◌≡◌, [], IfOk, None, Some, false, string_bytes, true};
-ghost use Rattle.tsn_given.specs.Stop.{known_text, stop_text};
+ghost use Rattle.std.specs.Prelude.{◌≡◌, IfOk, Some, string_bytes, true};
+ghost use Rattle.tsn_given.specs.Stop.{is_least, known_text, stop_text};
 
 use std::alloc::Global;
 use std::fmt;
@@ -15,19 +15,19 @@ pub struct Stop {
     pub bound: u64,
 }
 
-/// A number of nanoseconds, printed as `none` where there is none.
+/// A number of nanoseconds, printed as these words where there is none.
 #[derive(Clone, Copy)]
-pub(crate) struct Span(pub(crate) Option<u64>);
+pub(crate) struct SpanOr(pub(crate) &'static str, pub(crate) Option<u64>);
 
-impl fmt::Display for Span {
-    ghost use Rattle.tsn_given.specs.Stop.{span_text};
+impl fmt::Display for SpanOr {
+    ghost use Rattle.tsn_given.specs.Stop.{span_or};
 
-    ghost output = { λ span. Some (span_text span.0) };
+    ghost output = { λ span. Some (span_or span.0.now span.1) };
 
     fn fmt<W: fmt::Write>(&self, f: &mut fmt::Formatter<W>) -> fmt::Result {
-        match self.0 {
+        match self.1 {
             Some(span) => write!(f, "{span}"),
-            None => write!(f, "none"),
+            None => f.write_str(self.0),
         }
     }
 }
@@ -38,43 +38,38 @@ impl Stop {
     pub fn line(&self, alloc: Global, writer: &str) -> Result<String, NoMemory>
         ensures { IfOk result (λ line. string_bytes line ≡ stop_text self.now writer.now) }
     {
-        match self.best {
-            Some(best) => line_with(alloc, best, self.bound, writer),
-            None => line_without(alloc, self.bound),
+        let Stop { best, bound } = *self;
+        if is_least(best, bound) {
+            return line_of_least(alloc, best, bound, writer);
         }
+        Ok(format!(in alloc;
+            "best {}, and no schedule finishes before {bound}",
+            SpanOr("none", best)
+        )?)
     }
-}
-
-/// The line where a schedule is known, whose flowspan is given before the bound.
-fn line_with(alloc: Global, best: u64, bound: u64, writer: &str) -> Result<String, NoMemory>
-    ensures { IfOk result (λ line. string_bytes line ≡ stop_text (record { best = Some best; bound = bound }) writer.now) }
-{
-    if best == bound {
-        line_of_least(alloc, best, bound, writer)
-    } else {
-        line_of_both(alloc, best, bound)
-    }
-}
-
-/// The line where the schedule that is known needn't be the least.
-fn line_of_both(alloc: Global, best: u64, bound: u64) -> Result<String, NoMemory>
-    ensures { IfOk result (λ line. string_bytes line ≡ known_text false (Some best) bound []) }
-{
-    Ok(format!(in alloc; "best {best}, and no schedule finishes before {bound}")?)
 }
 
 /// The line where the schedule that is known is the least.
-fn line_of_least(alloc: Global, best: u64, bound: u64, writer: &str) -> Result<String, NoMemory>
-    ensures { IfOk result (λ line. string_bytes line ≡ known_text true (Some best) bound writer.now) }
+fn line_of_least(
+    alloc: Global,
+    best: Option<u64>,
+    bound: u64,
+    writer: &str,
+) -> Result<String, NoMemory>
+    ensures { IfOk result (λ line. string_bytes line ≡ known_text true best bound writer.now) }
 {
+    let best = SpanOr("none", best);
     Ok(format!(in alloc;
         "best {best}, and no schedule finishes before {bound}: that is the least flowspan, and {writer} writes its certificate"
     )?)
 }
 
-/// The line where none is known.
-fn line_without(alloc: Global, bound: u64) -> Result<String, NoMemory>
-    ensures { IfOk result (λ line. string_bytes line ≡ known_text false None bound []) }
+/// Whether the best schedule is known to be the least: none finishes before it.
+fn is_least(best: Option<u64>, bound: u64) -> bool
+    ensures { result ≡ is_least best bound }
 {
-    Ok(format!(in alloc; "best none, and no schedule finishes before {bound}")?)
+    match best {
+        Some(best) => best == bound,
+        None => false,
+    }
 }
