@@ -1,5 +1,5 @@
 -- How the answers of a run's stages make its answer.
-use Rattle.std.proofs.Common.{◌≡◌, ◌≢◌, ◌⊎◌, ◌+◌, inl, inr, ℕ, List, [], ◌∷◌, codes, take, Option, Some, None, Result, Ok, Err, refl, sym, ap, subst, IfSome, append-nil, arith}
+use Rattle.std.proofs.Common.{◌≡◌, ◌≢◌, ◌⊎◌, ◌+◌, inl, inr, ℕ, List, [], ◌∷◌, codes, take, Option, Some, None, Result, Ok, Err, refl, sym, ap, subst, IfSome, append-nil, arith, rules}
 use Rattle.std.proofs.lemmas.List.Sums.{sum_by-cons}
 use Rattle.std.specs.Io.KnownBytes.{Appends, Keeps}
 use Rattle.tsn_device.specs.declared.device.ReadFault.{ReadFault}
@@ -9,8 +9,7 @@ use Rattle.tsn_given.specs.Run.{AreUnwritten, BreaksOff, Command, Failures, IsLi
 use Rattle.tsn_given.specs.Outcome.{ComesOver, ComesTo, IsWrittenAs, TellsFailures}
 
 pub Keeps-same : (o : Option (List ℕ)) → Keeps o o
-Keeps-same None = tt
-Keeps-same (Some xs) = refl
+Keeps-same o = search rules
 
 -- how the output of an outcome tells a fault of a source
 pub record TellsFaults {A : Type 0} (output : Result A ReadFault → Output) : Type 0 where
@@ -19,10 +18,10 @@ pub record TellsFaults {A : Type 0} (output : Result A ReadFault → Output) : T
 
 -- the bytes that were written are those of the text
 pub text_whole : (before after : Option (List ℕ)) (bytes text : List ℕ) → bytes ≡ text → Appends before after bytes → Appends before after text
-text_whole before after bytes text same taken = subst (λ t. Appends before after t) same taken
+text_whole before after bytes text same taken = rw same at taken
 
 pub text_beginning : (before after : Option (List ℕ)) (bytes text : List ℕ) → bytes ≡ text → (n : ℕ) × Appends before after (take n bytes) → (n : ℕ) × Appends before after (take n text)
-text_beginning before after bytes text same taken = (taken.0, subst (λ t. Appends before after (take taken.0 t)) same taken.1)
+text_beginning before after bytes text same taken = rw same at taken
 
 pub never_both : {A : Type 0} {value : A} {fault : ReadFault} → Ok value ≡ Err fault → ⊥
 never_both is = cc
@@ -47,23 +46,14 @@ none_failed (calls ∷ next ∷ devices) none =
     omega (arith, after, before, none.0, rest)
 
 pub broken_or_not : {A : Type 0} (outcome : Result A ReadFault) → (outcome ≡ Err Broken) ⊎ (outcome ≡ Err Broken → ⊥)
-broken_or_not (Ok value) = inr (λ is. cc)
-broken_or_not (Err TooLong) = inr (λ is. cc)
-broken_or_not (Err Memory) = inr (λ is. cc)
-broken_or_not (Err Broken) = inl refl
+broken_or_not outcome = search rules
 
 module _ {A : Type 0} (Prints : Result A ReadFault → Output → Type 0) (command : Command) (sources : List SourceRun) (sinks : List SinkRun)
     (outcome : Result A ReadFault) (status : ℕ) (tells : TellsFailures (reads_of sources) outcome) (written : IsWrittenAs Prints outcome sinks status) where
   one_failed : (outcome ≡ Err Broken) ⊎ (outcome ≡ Err Broken → ⊥) → status ≡ DEVICE
       → failed_after (reads_of sources) + failed_after (writes_of sinks) ≡ failed_before (reads_of sources) + failed_before (writes_of sinks) + 1
-  one_failed (inl broken) device =
-      let read : failed_after (reads_of sources) ≡ failed_before (reads_of sources) + 1 = tells.broken broken in
-      let same : failed_after (writes_of sinks) ≡ failed_before (writes_of sinks) = none_failed (writes_of sinks) (written.unread broken).2 in
-      omega (arith, read, same)
-  one_failed (inr unbroken) device =
-      let wrote : failed_after (writes_of sinks) ≡ failed_before (writes_of sinks) + 1 = written.device device unbroken in
-      let same : failed_after (reads_of sources) ≡ failed_before (reads_of sources) = none_failed (reads_of sources) (tells.kept unbroken) in
-      omega (arith, wrote, same)
+  one_failed (inl broken) device = omega (arith, tells.broken broken, none_failed (writes_of sinks) (written.unread broken).2)
+  one_failed (inr unbroken) device = omega (arith, written.device device unbroken, none_failed (reads_of sources) (tells.kept unbroken))
 
   read_failed : (outcome ≡ Err Broken → BreaksOff command [] (readings_of sources)) → (outcome ≡ Err Broken) ⊎ (outcome ≡ Err Broken → ⊥)
       → failed_after (reads_of sources) ≢ failed_before (reads_of sources) → AreUnwritten (writings_of sinks) × BreaksOff command [] (readings_of sources)
@@ -88,10 +78,7 @@ module _ {A : Type 0} (Prints : Result A ReadFault → Output → Type 0) (comma
 -- what a run comes to in which no read failed, and in which one did
 pub IsOutput-comes : {A : Type 0} (output : Result A ReadFault → Output) (command : Command) (readings : List Reading) (outcome : Result A ReadFault)
     → ComesTo output command [] readings outcome → (outcome ≡ Err Broken → ⊥) → IsOutput command readings (output outcome)
-IsOutput-comes output command readings (Ok answer) comes not_broken = comes
-IsOutput-comes output command readings (Err TooLong) comes not_broken = comes
-IsOutput-comes output command readings (Err Memory) comes not_broken = comes
-IsOutput-comes output command readings (Err Broken) comes not_broken = absurd (not_broken refl)
+IsOutput-comes output command readings outcome comes not_broken = search rules
 
 -- how a run ends of which the one output was written
 pub runs_with : {A : Type 0} (output : Result A ReadFault → Output) (command : Command) (sources : List SourceRun) (sinks : List SinkRun)
@@ -105,9 +92,7 @@ runs_with output command sources sinks outcome status over written =
 
 -- nothing was taken
 pub Appends-nothing : (a : Option (List ℕ)) → Appends a a []
-Appends-nothing None = tt
-Appends-nothing (Some xs) = sym (append-nil xs)
+Appends-nothing a = search (rules, append-nil)
 
 pub some_of : {X : Type 0} (found : Option X) (P : X → Type 0) → ((x : X) → found ≡ Some x → P x) → IfSome found P
-some_of None P all = tt
-some_of (Some x) P all = all x refl
+some_of found P all = search rules

@@ -1,5 +1,5 @@
 -- What follows of a run over sources, and of one whose answer is told.
-use Rattle.std.proofs.Common.{◌≡◌, ◌≢◌, ◌++◌, ◌∷◌, [], ℕ, List, Bool, true, false, Option, Result, Ok, Err, IfOk}
+use Rattle.std.proofs.Common.{◌≡◌, ◌≢◌, ◌++◌, ◌∷◌, [], ℕ, List, Bool, true, false, Option, Result, Ok, Err, IfOk, rules}
 use Rattle.tsn_device.specs.declared.device.ReadFault.{ReadFault}
 use Rattle.tsn_given.specs.declared.answer.Answer.{Answer}
 use Rattle.tsn_device.specs.declared.run.TheConstants.{DEVICE}
@@ -43,5 +43,4 @@ ends_told command sources files answer output status ends written done =
 
 -- what follows of a value, where there was no error
 pub ok_along : {T E : Type 0} (result : Result T E) (P Q : T → Type 0) → IfOk result P → ((x : T) → P x → Q x) → IfOk result Q
-ok_along (Ok x) P Q holds follows = follows x holds
-ok_along (Err e) P Q holds follows = tt
+ok_along result P Q holds follows = search rules

@@ -14,19 +14,10 @@ use Rattle.tsn_given.specs.Run.{GoesOn, Output}
 use Rattle.tsn_reason.specs.Refusal.{RefusesPlan}
 use Rattle.tsn_reason.specs.Check.{CheckAnswers}
 
-not_true : false ≡ true → ⊥
-not_true p = search rules
-
-not_both : {A E : Type 0} {x : A} {e : E} → Ok x ≡ Err e → ⊥
-not_both p = search rules
-
-some_once : {A : Type 0} {o : Option A} {x y : A} → o ≡ Some x → o ≡ Some y → x ≡ y
-some_once p q = same_Some _ _ (sym p ∙ q)
-
 stated_has_no_fault : (file : List ℕ) (problem : NamedNetwork) (fault : NetFault) → States file problem → HasFault file fault → ⊥
 stated_has_no_fault file problem fault (d, spells, clear, made) (inl (is, none)) = none d spells
 stated_has_no_fault file problem fault (d, (top, utf8, parsed, is), clear, made) (inr (e, (other, utf8e, parsede, ise), faulty)) =
-    let same : e ≡ d = (rw (some_once parsede parsed) at ise) ∙ sym is in
+    let same : e ≡ d = (rw (same_Some _ _ (sym parsede ∙ parsed)) at ise) ∙ sym is in
     none-some _ (sym clear ∙ ap fault_of (sym same) ∙ faulty)
 
 -- to a network file that states a network `check` answers nothing
@@ -35,11 +26,8 @@ goes_on_after_network file problem stated output (fault, has, line) = stated_has
 
 -- nor does it to a plan file that states a plan
 pub plan_not_refused : (file : List ℕ) (stated : Plan) (output : Output) → plan_in file ≡ Ok stated → RefusesPlan file output → ⊥
-plan_not_refused file stated output is (fault, refused, line) = not_both (sym is ∙ refused)
+plan_not_refused file stated output is (fault, refused, line) = cc
 
 -- what a reader refused for another cause than memory is refused for that cause
 pub fault_is : {A : Type 0} (fault : FileFault) (expected : Result A FileFault) → FaultGiven fault expected → (fault ≡ Memory → false ≡ true) → expected ≡ Err fault
-fault_is NotJson expected given not_memory = given
-fault_is WrongShape expected given not_memory = given
-fault_is NumberTooLarge expected given not_memory = given
-fault_is Memory expected given not_memory = absurd (not_true (not_memory refl))
+fault_is fault expected given not_memory = search rules

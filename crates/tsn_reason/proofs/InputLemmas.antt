@@ -15,8 +15,7 @@ pub record AreLeft (sources : List SourceRun) : Type 0 where
   pub unfailing : NoneFailed (reads_of sources)
 
 also_kept : (calls : Failures) (devices : List Failures) → calls.after ≡ calls.before → NoneFailed devices → NoneFailed (calls ∷ devices)
-also_kept calls [] same none = same
-also_kept calls (next ∷ devices) same none = (same, none)
+also_kept calls devices same none = search rules
 
 pub none_left : AreLeft []
 none_left = record { unread = All-nil IsUnread; unfailing = tt }
@@ -30,17 +29,11 @@ also_left source sources unread same left = record {
 
 module _ (calls : Failures) (devices : List Failures) where
   failed_first : calls.after ≡ calls.before + 1 → NoneFailed devices → failed_after (calls ∷ devices) ≡ failed_before (calls ∷ devices) + 1
-  failed_first failed none =
-      let after = sum_by-cons (λ (c : Failures). c.after) calls devices in
-      let before = sum_by-cons (λ (c : Failures). c.before) calls devices in
-      omega (arith, after, before, failed, none_failed devices none)
+  failed_first failed none = simp sum_by-cons (omega (arith, failed, none_failed devices none))
 
   failed_next : calls.after ≡ calls.before → failed_after devices ≡ failed_before devices + 1
       → failed_after (calls ∷ devices) ≡ failed_before (calls ∷ devices) + 1
-  failed_next same failed =
-      let after = sum_by-cons (λ (c : Failures). c.after) calls devices in
-      let before = sum_by-cons (λ (c : Failures). c.before) calls devices in
-      omega (arith, after, before, failed, same)
+  failed_next same failed = simp sum_by-cons (omega (arith, failed, same))
 
 module _ {M A : Type 0} (output : Result A ReadFault → Output) (command : Command) (files : List (List ℕ)) (Makes : List ℕ → M → Type 0) (source : SourceRun)
     (rest : List SourceRun) where
@@ -66,13 +59,7 @@ module _ {M A : Type 0} (output : Result A ReadFault → Output) (command : Comm
 
   next : (outcome : Result A ReadFault) (file : List ℕ) → GivesFile source.reading file → ComesTo output command (files ++ file ∷ []) (readings_of rest) outcome
       → ComesTo output command files (source.reading ∷ readings_of rest) outcome
-  next (Ok answer) file gives (inl then) = inl (inr (inr (file, gives, then)))
-  next (Ok answer) file gives (inr line) = inr line
-  next (Err TooLong) file gives (inl then) = inl (inr (inr (file, gives, then)))
-  next (Err TooLong) file gives (inr line) = inr line
-  next (Err Memory) file gives (inl then) = inl (inr (inr (file, gives, then)))
-  next (Err Memory) file gives (inr line) = inr line
-  next (Err Broken) file gives then = inr (file, gives, then)
+  next outcome file gives then = search rules
 
   -- it was, and the run went on
   pub went_on : (made : M) (outcome : Result A ReadFault) (over : IsReadOver Makes source (Ok made))
@@ -87,9 +74,7 @@ module _ {M A : Type 0} (output : Result A ReadFault → Output) (command : Comm
 
 answers : (command : Command) (files : List (List ℕ)) (sources : List SourceRun) (output : Output) → AreLeft sources → command files output
     → Answers command files (readings_of sources) output
-answers command files [] output left answer = answer
-answers command files (source ∷ sources) output left answer =
-    inl (answer, All-head IsUnread source.reading (readings_of sources) left.unread, All-tail IsUnread source.reading (readings_of sources) left.unread)
+answers command files sources output left answer = search (rules, All-head, All-tail)
 
 -- its file was answered, and the other sources were left
 pub answered : {M A : Type 0} (output : Result A ReadFault → Output) (command : Command) (files : List (List ℕ)) (Makes : List ℕ → M → Type 0)
