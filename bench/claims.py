@@ -23,7 +23,7 @@ from lanes import below, minutes, uses
 PAGE = os.path.join(ROOT, "docs", "proved.md")
 MAP = os.path.join(ROOT, "docs", "crates.md")
 PAGES = [PAGE, os.path.join(ROOT, "README.md"), MAP]
-LEARNS = ("tsn_solver", "tsn_learn")
+LEARNS = ("tsn_bounds", "tsn_solver", "tsn_translate", "tsn_learn")
 
 # What stands around the counts of functions in each page, and which counts these are.
 COUNTS = {

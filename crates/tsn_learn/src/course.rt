@@ -1,17 +1,17 @@
 //! The order of the questions: a first schedule, then the flowspan, then stream after stream as the
 //! file lists them. A stream whose question takes too long is left, and come back to with what is left
 //! of the budget. Times are in nanoseconds.
-use crate::first::first_schedule;
 use crate::learning::{Budget, CourseNews, Hear};
-use crate::table::table_of;
 use crate::turn::Turn;
 use std::alloc::{AllocError, Global};
+use tsn_bounds::literal::Literal;
+use tsn_bounds::number::{FAR, at, copy, less, next, put, signed, signed_list, sum};
+use tsn_bounds::table::{Table, Visit};
 use tsn_solver::ask::Answered;
-use tsn_solver::literal::Literal;
-use tsn_solver::number::{FAR, at, copy, less, next, put, signed, signed_list, sum};
 use tsn_solver::search::Search;
-use tsn_solver::table::{Table, Visit};
 use tsn_timing::Timing;
+use tsn_translate::first::first_schedule;
+use tsn_translate::table::table_of;
 
 // How many conflicts the question by the links is worth.
 const SHARE: u64 = 50;

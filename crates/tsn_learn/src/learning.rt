@@ -1,13 +1,13 @@
 //! Searches for the first of the optimal schedules; and once more with the plan known, for a shorter argument. Times are in nanoseconds.
 use crate::course::{Course, State, course_from, course_of};
-use crate::writing::{Aim, write_argument};
 use std::alloc::{AllocError, Global};
+use tsn_bounds::number::{copy, sum, unsigned_list};
 use tsn_cert::{Argument, Goal};
 use tsn_model::NoMemory;
-use tsn_solver::number::{copy, sum, unsigned_list};
 use tsn_solver::pace::Pace;
 use tsn_solver::search::Search;
 use tsn_timing::Timing;
+use tsn_translate::writing::{Aim, write_argument};
 
 // How many more conflicts the second time may take than the first.
 const MORE: u64 = 1000;

@@ -1,15 +1,15 @@
 //! Shows that no schedule has a lesser flowspan than one that is known. Times are in nanoseconds.
 use crate::course::search_of;
 use crate::learning::{Budget, CourseNews, Hear, argue, within};
-use crate::writing::Aim;
 use std::alloc::{AllocError, Global};
+use tsn_bounds::literal::Literal;
+use tsn_bounds::number::{at, less, signed, signed_list, sum, unsigned_list};
 use tsn_cert::{Argument, Goal};
 use tsn_model::NoMemory;
 use tsn_solver::ask::Answered;
-use tsn_solver::literal::Literal;
-use tsn_solver::number::{at, less, signed, signed_list, sum, unsigned_list};
 use tsn_solver::search::Search;
 use tsn_timing::Timing;
+use tsn_translate::writing::Aim;
 
 // After how many conflicts it is told how far a proof has got.
 const ROUND: u64 = 2000;

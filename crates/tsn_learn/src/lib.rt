@@ -4,15 +4,9 @@
 #![tactic(auto)]
 
 mod course;
-mod first;
 mod learning;
 mod least;
-mod need;
-mod orders;
-mod table;
 mod turn;
-mod view;
-mod writing;
 
 pub use learning::{BestSoFar, Budget, CourseNews, Hear, LearnAnswer, LearnedPlan, learn};
 pub use least::{LeastAnswer, show_least};

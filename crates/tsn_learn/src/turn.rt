@@ -1,5 +1,5 @@
 //! How a question is asked next: from which end of what is left, how far from it, and with how many conflicts.
-use tsn_solver::number::{less, sum};
+use tsn_bounds::number::{less, sum};
 
 // How many conflicts the first question after the flowspan is worth, and the others at first.
 const FLOWSPAN: Worth = Worth {

@@ -1,10 +1,12 @@
 //! What a contradiction teaches: the clause of the first unique implication point, over bounds (Marques-Silva and Sakallah 1996;
 //! Ohrimenko, Stuckey and Codish 2007), without what the others imply.
-use crate::literal::{Literal, exchange, literal_at};
-use crate::number::{NONE, at, index, index_at, is_marked, item_at, mark, push, put, put_index};
-use crate::reason::{Deed, Why};
 use crate::search::Search;
 use std::alloc::{AllocError, Global};
+use tsn_bounds::literal::{Literal, exchange, literal_at};
+use tsn_bounds::number::{
+    NONE, at, index, index_at, is_marked, item_at, mark, push, put, put_index,
+};
+use tsn_bounds::reason::{Deed, Why};
 
 // How deep it's looked whether a literal is implied, and how many changes are looked at for that.
 const DEPTH: u32 = 3;

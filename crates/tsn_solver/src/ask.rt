@@ -1,10 +1,10 @@
 //! Questions: whether there is a schedule in which some literals hold, the premises.
-use crate::literal::Literal;
-use crate::number::{index, mark, push, sum};
-use crate::reason::Why;
 use crate::search::Search;
-use crate::table::{Pair, place_of, signed_place};
 use std::alloc::AllocError;
+use tsn_bounds::literal::Literal;
+use tsn_bounds::number::{index, mark, push, sum};
+use tsn_bounds::reason::Why;
+use tsn_bounds::table::{Pair, place_of, signed_place};
 
 // How many more learned clauses are kept each time that some are forgotten.
 const MORE: usize = 300;

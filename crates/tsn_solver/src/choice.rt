@@ -1,7 +1,7 @@
 //! Which block is decided next: the one that conflicts asked for most of late (Moskewicz, Madigan, Zhao, Zhang and Malik 2001), from a
 //! binary heap.
-use crate::number::{NONE, at, index, index_at, item_at, push, put, put_index, put_item};
 use std::alloc::{AllocError, Global};
+use tsn_bounds::number::{NONE, at, index, index_at, item_at, push, put, put_index, put_item};
 
 /// The blocks that may be decided, by their numbers.
 #[derive(Drop)]

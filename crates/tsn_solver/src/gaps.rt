@@ -1,11 +1,11 @@
 //! What follows from offsets by the gaps of pairs, and from gaps by the arcs of the blocks that they pass.
-use crate::known::Arc;
-use crate::literal::Literal;
-use crate::number::{at, item_at, less, next, sum};
-use crate::reason::Why;
 use crate::search::Search;
-use crate::table::{Rival, signed_place};
 use std::alloc::AllocError;
+use tsn_bounds::known::Arc;
+use tsn_bounds::literal::Literal;
+use tsn_bounds::number::{at, item_at, less, next, sum};
+use tsn_bounds::reason::Why;
+use tsn_bounds::table::{Rival, signed_place};
 
 const NO_RIVAL: Rival = Rival {
     bound: 0,

@@ -1,8 +1,8 @@
 //! When a link is busy, where each frame goes as early as it can, in as many parts as it takes (the time line of Fahimi, Ouellet and
 //! Quimper 2018). Times are in nanoseconds.
-use crate::number::{FAR, item_at, less, next, push, put_item, sum};
 use crate::ranks::Ranks;
 use std::alloc::{AllocError, Global};
+use tsn_bounds::number::{FAR, item_at, less, next, push, put_item, sum};
 
 /// A frame of a link as seen from one side.
 #[derive(Clone, Copy)]

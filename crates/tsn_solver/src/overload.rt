@@ -1,13 +1,13 @@
 //! Why frames don't fit on a link: as few of them as will do, and each bound as weak as will do. Times are in nanoseconds.
-use crate::literal::Literal;
-use crate::number::{index_at, less, push, put_index, sum};
-use crate::reason::Deed;
-use crate::record::place_at;
 use crate::rooms::Overload;
 use crate::search::Search;
-use crate::side::{end_literal, head_literal};
-use crate::table::Visit;
 use std::alloc::AllocError;
+use tsn_bounds::literal::Literal;
+use tsn_bounds::number::{index_at, less, push, put_index, sum};
+use tsn_bounds::reason::Deed;
+use tsn_bounds::record::place_at;
+use tsn_bounds::side::{end_literal, head_literal};
+use tsn_bounds::table::Visit;
 
 // How many frames are left out at most.
 const LEFT_OUT: usize = 128;

@@ -1,11 +1,11 @@
 //! What follows from the bounds that changed.
-use crate::clauses::WatchOutcome;
-use crate::literal::Literal;
-use crate::number::{less, next, push, sum};
-use crate::reason::Why;
 use crate::search::Search;
-use crate::side::{bound_of, lead};
 use std::alloc::AllocError;
+use tsn_bounds::clauses::WatchOutcome;
+use tsn_bounds::literal::Literal;
+use tsn_bounds::number::{less, next, push, sum};
+use tsn_bounds::reason::Why;
+use tsn_bounds::side::{bound_of, lead};
 
 // How much work it counts as to look at a frame of a link from one side. A link that rests counts as one looked at from both.
 const LOOK: usize = 16;

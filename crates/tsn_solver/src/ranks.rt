@@ -1,6 +1,6 @@
 //! Sets of places in a row.
-use crate::number::{item_at, push, put_item};
 use std::alloc::{AllocError, Global};
+use tsn_bounds::number::{item_at, push, put_item};
 
 /// A set of numbers.
 #[derive(Drop)]

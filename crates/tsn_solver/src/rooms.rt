@@ -3,15 +3,15 @@
 //! greatest at which its occupancy may end. Seen from the end of the cycle, on side 1, each number's sign is turned and heads are ends.
 //! Times are in nanoseconds.
 use crate::line::{Limit, Line, Standing, standing_at};
-use crate::number::{
+use crate::ranks::Ranks;
+use crate::rows::{Ease, Room};
+use std::alloc::{AllocError, Global};
+use tsn_bounds::number::{
     FAR, NONE, at, index, is_marked, item_at, less, mark, next, push, put, put_item, sum,
 };
-use crate::ranks::Ranks;
-use crate::reason::{Part, Placing};
-use crate::record::{places_of, short};
-use crate::rows::{Ease, Room};
-use crate::table::{Shared, Table};
-use std::alloc::{AllocError, Global};
+use tsn_bounds::reason::{Part, Placing};
+use tsn_bounds::record::{places_of, short};
+use tsn_bounds::table::{Shared, Table};
 
 /// That a frame goes last of some, and its least head by that.
 #[derive(Clone, Copy)]

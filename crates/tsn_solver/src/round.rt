@@ -1,9 +1,9 @@
 //! Closed chains of arcs: where one raises a bound again and again it's found, and not walked up to the end of the window.
-use crate::literal::Literal;
-use crate::number::{item_at, less, push, put_item};
-use crate::reason::{Deed, Why};
 use crate::search::Search;
 use std::alloc::{AllocError, Global};
+use tsn_bounds::literal::Literal;
+use tsn_bounds::number::{item_at, less, push, put_item};
+use tsn_bounds::reason::{Deed, Why};
 
 // How often an arc raises a bound before a closed chain is looked for.
 const OFTEN: u32 = 8;

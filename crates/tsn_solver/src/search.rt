@@ -2,16 +2,16 @@
 //! contradiction a further clause is learned. Times are in nanoseconds.
 use crate::analysis::Analysis;
 use crate::choice::Choice;
-use crate::known::Known;
-use crate::literal::Literal;
-use crate::number::{at, index, less};
 use crate::pace::Pace;
-use crate::reason::Why;
 use crate::rooms::Rooms;
 use crate::round::Rises;
-use crate::table::{Pair, Table, place_of, signed_place};
-use crate::trail::Event;
 use std::alloc::{AllocError, Global};
+use tsn_bounds::known::Known;
+use tsn_bounds::literal::Literal;
+use tsn_bounds::number::{at, index, less};
+use tsn_bounds::reason::Why;
+use tsn_bounds::table::{Pair, Table, place_of, signed_place};
+use tsn_bounds::trail::Event;
 
 /// A search over a network.
 #[derive(Drop)]

@@ -2,7 +2,7 @@
 //! further they are in its list, those in the other direction the less far. A pair and a side are named by one number: twice the
 //! number of the pair, and one more where the right stream goes first.
 use std::alloc::{AllocError, Global};
-use tsn_solver::number::{NONE, index, index_at, is_marked, mark, push, put_index};
+use tsn_bounds::number::{NONE, index, index_at, is_marked, mark, push, put_index};
 
 /// The orders of a view.
 #[derive(Drop)]

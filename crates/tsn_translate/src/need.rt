@@ -1,9 +1,9 @@
 //! What an argument needs of what a search found out: by going back from its end.
 use std::alloc::{AllocError, Global};
-use tsn_solver::known::Known;
-use tsn_solver::literal::Literal;
-use tsn_solver::number::{index, is_marked, mark, push};
-use tsn_solver::reason::{Deed, Why};
+use tsn_bounds::known::Known;
+use tsn_bounds::literal::Literal;
+use tsn_bounds::number::{index, is_marked, mark, push};
+use tsn_bounds::reason::{Deed, Why};
 
 /// The changes before the first decision that are needed, and the clauses that were shown.
 #[derive(Drop)]

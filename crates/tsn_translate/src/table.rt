@@ -3,8 +3,8 @@ ghost use Rattle.std.specs.Prelude.{◌<◌};
 ghost use Rattle.tsn_model.specs.Network.{stream_count};
 
 use std::alloc::{AllocError, Global};
-use tsn_solver::number::{NONE, at, index, index_at, less, push, put, put_index, signed, sum};
-use tsn_solver::table::{Block, Body, Conflict, Pair, Shared, Stays, Table, Visit};
+use tsn_bounds::number::{NONE, at, index, index_at, less, push, put, put_index, signed, sum};
+use tsn_bounds::table::{Block, Body, Conflict, Pair, Shared, Stays, Table, Visit};
 use tsn_timing::Timing;
 
 /// The numbers of a network, as far as they matter for schedules of at most this flowspan. The error says that there was no memory.

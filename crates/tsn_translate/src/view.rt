@@ -1,11 +1,11 @@
 //! The view that the moves of an argument lead through, so that no move comes too late.
-use tsn_solver::known::{Known, is_impossible};
-use tsn_solver::literal::Literal;
-use tsn_solver::number::{FAR, at, index, less, put, sum};
-use tsn_solver::reason::{Packing, Placing};
-use tsn_solver::record::places_of;
-use tsn_solver::side::{bound_of, lead};
-use tsn_solver::table::Visit;
+use tsn_bounds::known::{Known, is_impossible};
+use tsn_bounds::literal::Literal;
+use tsn_bounds::number::{FAR, at, index, less, put, sum};
+use tsn_bounds::reason::{Packing, Placing};
+use tsn_bounds::record::places_of;
+use tsn_bounds::side::{bound_of, lead};
+use tsn_bounds::table::Visit;
 
 /// What a move comes to.
 #[derive(Clone, Copy, PartialEq, Eq)]

@@ -6,19 +6,19 @@ use crate::view::{
     make_impossible, make_packing, make_placing, make_turn, make_use, narrow,
 };
 use std::alloc::{AllocError, Global};
+use tsn_bounds::known::{Known, is_impossible};
+use tsn_bounds::literal::{Literal, literal_at};
+use tsn_bounds::number::{NONE, at, index, index_at, is_marked, next, push, put_index, sum};
+use tsn_bounds::reason::Deed;
+use tsn_bounds::record::places_of;
+use tsn_bounds::table::Block;
+use tsn_bounds::trail::Event;
 use tsn_cert::motion::MAX_FRAMES;
 use tsn_cert::{
     Argument, Clause, Fact, Frames, Goal, Move, Moves, Order, Orders, Placing as Placed, Step,
     Steps,
 };
 use tsn_model::Frame;
-use tsn_solver::known::{Known, is_impossible};
-use tsn_solver::literal::{Literal, literal_at};
-use tsn_solver::number::{NONE, at, index, index_at, is_marked, next, push, put_index, sum};
-use tsn_solver::reason::Deed;
-use tsn_solver::record::places_of;
-use tsn_solver::table::Block;
-use tsn_solver::trail::Event;
 
 /// What is shown, of which plan.
 #[derive(Clone, Copy)]
