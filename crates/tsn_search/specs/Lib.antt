@@ -1,4 +1,2 @@
-pub mod Search
-pub mod Below
 pub mod Batch
 pub mod Team

@@ -4,19 +4,19 @@ ghost use Rattle.tsn_timing.specs.Solution.{IsSolved};
 ghost use Rattle.tsn_book.specs.Below.{path_after};
 ghost use Rattle.tsn_incumbent.specs.Teller.{IsEven};
 ghost use Rattle.tsn_search.specs.Batch.{IsGoingOn};
-ghost use Rattle.tsn_search.specs.Below.{IsBelow, IsBatch, outcomes_of};
-ghost use Rattle.tsn_search.specs.Search.{AreTablesOf};
+ghost use Rattle.tsn_walk.specs.Below.{IsBelow, IsBatch, outcomes_of};
+ghost use Rattle.tsn_walk.specs.Search.{AreTablesOf};
 
 use crate::context::Context;
-use crate::news::{known, splits_among};
 use crate::settler::Settler;
-use crate::{BATCH, Batch, Below, SeenBest};
 use std::sync::Wait;
 use tsn_book::BookFault;
 use tsn_branch::supervisor::{News, Supervisor};
 use tsn_incumbent::{Named, Shared, Teller, observe_as, post_as, settle_below_as};
 use tsn_node::Node;
 use tsn_timing::{Solved, Timing};
+use tsn_walk::news::{known, splits_among};
+use tsn_walk::{BATCH, Batch, Below, SeenBest};
 
 /// How a worker goes on below a node.
 #[derive(Clone, Copy)]

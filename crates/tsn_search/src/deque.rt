@@ -1,11 +1,11 @@
 //! Bags for workers in threads of their own.
 ghost use Rattle.std.specs.Prelude.{◌≡◌, vec_len, IfOk};
 
-use crate::Bag;
 use crossbeam_deque::{Steal, Stealer, Worker};
 use std::alloc::{AllocError, Global};
 use tsn_model::NoMemory;
 use tsn_node::Node;
+use tsn_walk::Bag;
 
 // How many nodes a bag has room for at first.
 const ROOM: usize = 64;

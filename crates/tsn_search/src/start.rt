@@ -1,16 +1,16 @@
 //! What the caller settles before the workers start.
 ghost use Rattle.std.specs.Prelude.{◌≡◌};
 ghost use Rattle.tsn_incumbent.specs.Teller.{IsEven};
-ghost use Rattle.tsn_search.specs.Search.{AreTablesOf};
+ghost use Rattle.tsn_walk.specs.Search.{AreTablesOf};
 
 use crate::batch::{Advance, settle_next};
 use crate::context::Context;
 use crate::settler::Settler;
-use crate::{Below, OpenNodes};
 use std::sync::Wait;
 use tsn_branch::supervisor::Supervisor;
 use tsn_incumbent::Named;
 use tsn_node::NoMemory;
+use tsn_walk::{Below, OpenNodes};
 
 /// Settles nodes, each by itself: those on the way that a known schedule keeps to, where there is one, or else first open ones until
 /// so many are open; then tells which are open. The error says that there was no memory to begin.

@@ -1,11 +1,11 @@
 //! Workers, each a teller with a bag.
 ghost use Rattle.std.specs.Prelude.{◌≡◌, ◌++◌, ◌∷◌, [], length, map, IfOk};
 
-use crate::Bag;
 use crate::settler::Settler;
 use crate::worker::Member;
 use std::alloc::{AllocError, Global};
 use tsn_incumbent::{Named, Teller};
+use tsn_walk::Bag;
 
 /// Gives each teller a bag, and its number in the list.
 pub fn team_of<K: Named, B: Bag>(

@@ -2,10 +2,9 @@
 ghost use Rattle.std.specs.Prelude.{◌≡◌, ℕ, ◌+◌, ◌<◌, ◌≤◌, length, All, IfOk, slice_index_or};
 ghost use Rattle.tsn_incumbent.specs.Names.{IsBookOf};
 ghost use Rattle.tsn_incumbent.specs.Teller.{IsEven, tellers_from};
-ghost use Rattle.tsn_search.specs.Search.{AreTablesOf};
+ghost use Rattle.tsn_walk.specs.Search.{AreTablesOf};
 ghost use Rattle.tsn_search.specs.Team.{AreBack, IsGathered};
 
-use crate::Bag;
 use crate::board::Board;
 use crate::context::Context;
 use crate::settler::Settler;
@@ -20,6 +19,7 @@ use tsn_branch::Setting;
 use tsn_branch::supervisor::Supervisor;
 use tsn_incumbent::{EndedWord, Named, Parts, Teller, gather};
 use tsn_node::NoMemory;
+use tsn_walk::Bag;
 
 /// The caller begins, along a schedule where one is known, the workers go on, one a bag, and what all have settled is gathered: the
 /// word that they shared, with the seat of all of them, and the book. The error says that there was no memory for the caller.

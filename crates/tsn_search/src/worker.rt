@@ -1,18 +1,18 @@
 //! One worker.
 ghost use Rattle.std.specs.Prelude.{◌≡◌};
 ghost use Rattle.tsn_incumbent.specs.Teller.{IsEven};
-ghost use Rattle.tsn_search.specs.Search.{AreTablesOf};
+ghost use Rattle.tsn_walk.specs.Search.{AreTablesOf};
 
 use crate::batch::{Advance, settle_next};
 use crate::board::Board;
 use crate::context::Context;
 use crate::settler::Settler;
-use crate::{BATCH, Bag, Below};
 use std::sync::Wait;
 use std::thread;
 use tsn_branch::supervisor::Supervisor;
 use tsn_incumbent::Named;
 use tsn_node::Node;
+use tsn_walk::{BATCH, Bag, Below};
 
 // A worker ends after so many rounds in turn in which it found no node.
 const ROUNDS: usize = 1000;

@@ -1,7 +1,7 @@
 -- A search that goes on where an earlier one was stopped.
 --     GoesOn     what is left of a search that went on from a book
 use Rattle.tsn_book.specs.Book.{Progress}
-use Rattle.tsn_search.specs.Search.{IsFurther}
+use Rattle.tsn_walk.specs.Search.{IsFurther}
 use Rattle.tsn_answer.specs.declared.found.Found.{Found}
 use Rattle.tsn_answer.specs.declared.found.Found.TheVariants as found
 

@@ -13,4 +13,5 @@ pub use tsn_answer::{
     Answer, Effort, FILE_ORDER_LIMIT, Found, Known, MAX_LIMIT, MAX_WORKERS, Method, plan_of,
 };
 pub use tsn_branch::{LearnedNews, News, NoSupervisor, Phase, Supervisor};
-pub use tsn_search::{Bag, DequeBag};
+pub use tsn_search::DequeBag;
+pub use tsn_walk::Bag;

@@ -3,7 +3,7 @@ ghost use Rattle.std.specs.Prelude.{◌≡◌, ◌≤◌, ◌<◌, length, IfOk}
 ghost use Rattle.tsn_answer.specs.Optimum.{FindsOptimum};
 ghost use Rattle.tsn_answer.specs.Answer.{HasTree, IsAnswerBy, IsAnswerReadAgain, IsAnswerShown, IsFound, IsFoundBy, HasNoArgument, KeepsFound, KeepsKept, KeepsKnown};
 ghost use Rattle.tsn_answer.specs.Known.{IsKnown};
-ghost use Rattle.tsn_search.specs.Search.{IsSearchBy};
+ghost use Rattle.tsn_walk.specs.Search.{IsSearchBy};
 ghost use Rattle.tsn_worker.specs.GoingOn.{GoesOn};
 ghost use Rattle.tsn_worker.specs.Team.{IsTeamAnswer, IsTeamwork};
 ghost use Rattle.tsn_worker.specs.declared.planning.TheConstants.{GOES_ON_FROM};
@@ -20,10 +20,11 @@ use tsn_book::Book;
 use tsn_branch::{Phase, Prepared, Setting, Supervisor, lower_bound};
 use tsn_incumbent::Parts;
 use tsn_model::NoMemory;
-use tsn_search::search::settle_open;
+use tsn_search::DequeBag;
 use tsn_search::threads::search;
-use tsn_search::{Bag, DequeBag};
 use tsn_timing::Problem;
+use tsn_walk::Bag;
+use tsn_walk::search::settle_open;
 use tsn_words::Method;
 
 // From this limit on one worker goes on in the book that is there, where the conflict-driven search gave up. Below it too few nodes may

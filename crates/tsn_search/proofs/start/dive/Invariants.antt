@@ -1,6 +1,6 @@
 use Rattle.std.proofs.Common.{◌≡◌}
 use Rattle.tsn_incumbent.specs.Teller.{IsEven}
-use Rattle.tsn_search.specs.Below.{IsBelow}
+use Rattle.tsn_walk.specs.Below.{IsBelow}
 use Rattle.tsn_search.proofs.start.dive.Given as goal
 
 abbrev pub invariant-loop : goal.invariant-loop

@@ -1,5 +1,5 @@
 use Rattle.std.proofs.Common.{sym, ◌∙◌, subst}
-use Rattle.tsn_search.specs.Below.{StandsAt}
+use Rattle.tsn_walk.specs.Below.{StandsAt}
 use Rattle.tsn_search.proofs.worker.work_below.Goals as goal
 
 pub loop-preserved : goal.loop-preserved

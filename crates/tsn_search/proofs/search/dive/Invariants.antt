@@ -1,9 +1,0 @@
-use Rattle.tsn_search.specs.Search.{IsFurther}
-use Rattle.tsn_search.specs.Below.{IsBelow}
-use Rattle.tsn_search.proofs.search.dive.Given as goal
-
-abbrev pub invariant-loop : goal.invariant-loop
-invariant-loop g l = record {
-  further : IsFurther l.fn.book l.book;
-  below : IsBelow l.course.setting.now.tables.timing.now l.course.setting.now.tables.conflicts.now.triples l.below;
-}

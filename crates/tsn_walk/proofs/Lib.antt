@@ -1,0 +1,3 @@
+mod Further
+mod Settling
+pub mod Batching

@@ -1,0 +1,14 @@
+use Rattle.std.proofs.Common.{sym, subst}
+use Rattle.tsn_walk.specs.Search.{IsFurther}
+use Rattle.tsn_walk.proofs.Further.{goes_on}
+use Rattle.tsn_walk.proofs.search.settle_under.Goals as goal
+use Rattle.tsn_walk.proofs.search.settle_under.Goals.{else-loop-test, then-loop-test+in_ok-settle_batch+then-not-branch}
+
+pub returns : goal.returns
+returns g c = record {
+  further = elim c.loop-test.branch [
+    | else-loop-test w ↦ subst (IsFurther c.args.book.now) (sym w.book-is) c.loop.invariant.further
+    | then-loop-test+in_ok-settle_batch+then-not-branch w ↦
+        subst (IsFurther c.args.book.now) (sym w.book-is) (goes_on _ _ _ c.loop.invariant.further w.settle_batch.ensures.further)
+  ];
+}
