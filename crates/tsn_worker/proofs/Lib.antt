@@ -1,1 +1,4 @@
 mod Teams
+mod Gathering
+pub mod BatchTellers
+pub mod Bags

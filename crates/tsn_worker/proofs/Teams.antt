@@ -7,7 +7,7 @@ use Rattle.tsn_incumbent.specs.Standings.{Ended}
 use Rattle.tsn_book.specs.Book.{Progress}
 use Rattle.tsn_cert.specs.declared.certificate.Certificate.TheVariants.{Tree, Argument as Argued}
 use Rattle.tsn_walk.specs.Search.{IsFurther}
-use Rattle.tsn_search.specs.Team.{IsGathered}
+use Rattle.tsn_worker.specs.Gathered.{IsGathered}
 use Rattle.tsn_words.specs.declared.options.Method.TheVariants.{FileOrder}
 use Rattle.tsn_answer.specs.declared.effort.Effort.{Effort}
 use Rattle.tsn_answer.specs.declared.answer.Answer.{Answer}

@@ -11,7 +11,7 @@ use Rattle.tsn_answer.specs.declared.answer.Answer.{Answer}
 use Rattle.tsn_answer.specs.declared.found.Found.{Found}
 use Rattle.tsn_answer.specs.declared.found.Found.TheVariants as found
 use Rattle.tsn_answer.specs.Answer.{HasTree, count_in}
-use Rattle.tsn_search.specs.Team.{IsGathered}
+use Rattle.tsn_worker.specs.Gathered.{IsGathered}
 
 -- the word was shared by so many workers and their caller, who gathered the book with its first settlements; the caller made the others after that
 pub record IsGatheredIn (workers : ℕ) (ended : Ended) (book : Progress) : Type 0 where

@@ -1,3 +1,0 @@
-mod Gathering
-pub mod BatchTellers
-pub mod Teams
