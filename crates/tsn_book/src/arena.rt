@@ -21,7 +21,7 @@ use crate::log::Log;
 use crate::statuses::{Origin, Places, Status};
 use crate::ties::{comes_before, shows_after};
 use std::alloc::{AllocError, Global};
-use tsn_forest::Forest;
+use tsn_diff::Forest;
 use tsn_node::outcome::Look;
 use tsn_node::{Decision, NoMemory, Node, Side, Triple};
 use tsn_timing::{Solved, Timing, is_conflict};

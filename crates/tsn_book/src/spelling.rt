@@ -19,7 +19,7 @@ use crate::statuses::Status;
 use std::alloc::{AllocError, Global};
 use std::marker::Model;
 use tsn_cert::{Cert, Format, Leaf, LowerBound, Node, Nodes};
-use tsn_forest::Forest;
+use tsn_diff::Forest;
 use tsn_node::outcome::Look;
 use tsn_node::{NoMemory, whole_chains};
 use tsn_timing::{Solved, Timing};

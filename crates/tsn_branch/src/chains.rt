@@ -12,8 +12,7 @@ ghost use Rattle.tsn_branch.specs.Releases.{releases_of};
 
 use std::alloc::Global;
 use tsn_cert::{Chain, Chains};
-use tsn_diff::Least;
-use tsn_forest::Forest;
+use tsn_diff::{Forest, Least};
 use tsn_model::NoMemory;
 use tsn_timing::{Timing, Valid};
 

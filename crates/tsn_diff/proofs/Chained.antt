@@ -2,7 +2,7 @@
 use Rattle.std.proofs.Common.{List, arith}
 use Rattle.tsn_model.specs.declared.Arc.{Arc}
 use Rattle.tsn_diff.specs.Forest.{Labelling, IsForest}
-use Rattle.tsn_forest.specs.Chains.{IsRooted}
+use Rattle.tsn_diff.specs.Chains.{IsRooted}
 
 pub IsRooted-from_forest : {arcs : List Arc} {labels : Labelling} → IsForest arcs labels → IsRooted labels.last
 IsRooted-from_forest {arcs} {labels} forest = record {

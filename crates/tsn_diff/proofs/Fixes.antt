@@ -3,13 +3,13 @@ use Rattle.std.proofs.Common.{◌≡◌, ◌≢◌, ℕ, ◌+◌, ◌<◌, ◌�
 use Rattle.std.proofs.lemmas.Bool.{cases_eq, cases_lt}
 use Rattle.std.proofs.lemmas.Option.{same_Some}
 use Rattle.std.proofs.lemmas.List.{get_or-replicate, get_or_past, length-replicate}
-use Rattle.tsn_forest.specs.declared.forest.Step.{Step}
+use Rattle.tsn_diff.specs.declared.forest.Step.{Step}
 use Rattle.tsn_diff.specs.declared.spread.Stage.{Stage}
 use Rattle.tsn_diff.specs.declared.spread.Stage.TheVariants.{Calm, Fixed}
-use Rattle.tsn_forest.specs.Forest.{Path, Rooted, last_of}
-use Rattle.tsn_forest.specs.Forest.Path.{here, back}
+use Rattle.tsn_diff.specs.Steps.{Path, Rooted, last_of}
+use Rattle.tsn_diff.specs.Steps.Path.{here, back}
 use Rattle.tsn_diff.specs.Spread.{stage_of, AreCalm, AreFixed, IsLifted}
-use Rattle.tsn_forest.proofs.Paths.{Path-append, length-path_any}
+use Rattle.tsn_diff.proofs.StepPaths.{Path-append, length-path_any}
 
 -- the streams on the way back from `first` are fixed as far as `next`, and that one isn't yet
 pub record AreFixedTo (last : List (Option Step)) (stages : List Stage) (first next count : ℕ) : Type 0 where

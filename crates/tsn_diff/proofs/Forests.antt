@@ -5,18 +5,18 @@ use Rattle.std.proofs.lemmas.Option.{same_Some}
 use Rattle.std.proofs.lemmas.List.{get_or_default}
 use Rattle.std.proofs.lemmas.List.Sums.{sum_by-le, sum_by-set}
 use Rattle.tsn_model.specs.declared.Arc.{Arc}
-use Rattle.tsn_forest.specs.declared.forest.Step.{Step}
+use Rattle.tsn_diff.specs.declared.forest.Step.{Step}
 use Rattle.tsn_model.specs.Arcs.{arc_at}
 use Rattle.tsn_diff.specs.Limits.{IsArcAmong}
 use Rattle.tsn_model.specs.Arcs.{chain_sum}
 use Rattle.tsn_diff.specs.Forest.{Labelling, IsStep, IsForest, HasSteps}
-use Rattle.tsn_forest.specs.Forest.{last_of, indexes_of}
+use Rattle.tsn_diff.specs.Steps.{last_of, indexes_of}
 use Rattle.tsn_diff.specs.Progress.{KeepsRaised, passes_within}
 use Rattle.tsn_diff.proofs.Cases.{by_option}
 use Rattle.tsn_diff.proofs.Paths.{passes_within-false, Rooted-kept, Rooted-moved}
-use Rattle.tsn_forest.proofs.Paths.{length-path}
+use Rattle.tsn_diff.proofs.StepPaths.{length-path}
 use Rattle.tsn_diff.proofs.Sums.{explained, indexes_in, chain_sum-le}
-use Rattle.tsn_forest.proofs.Steps.{length-indexes_of}
+use Rattle.tsn_diff.proofs.Steps.{length-indexes_of}
 
 pub HasSteps-from_forest : {arcs : List Arc} {labels : Labelling} → IsForest arcs labels → HasSteps labels
 HasSteps-from_forest {arcs} {labels} f = record { count = f.count; from_in = λ i s h. omega (arith, f.count, (f.steps i s h).from_in) }

@@ -5,7 +5,7 @@ use Rattle.std.proofs.lemmas.List.{get_or-replicate, get_or_past, get_or_append_
 use Rattle.std.proofs.lemmas.List.Elements.{All-nil, All-push}
 use Rattle.std.proofs.lemmas.List.FromFn.{length-map-range_with_len}
 use Rattle.tsn_model.specs.declared.Arc.{Arc}
-use Rattle.tsn_forest.specs.declared.forest.Step.{Step}
+use Rattle.tsn_diff.specs.declared.forest.Step.{Step}
 use Rattle.tsn_model.specs.Schedule.{offset_of}
 use Rattle.tsn_model.specs.Arcs.{arc_at, Holds, HoldsAll}
 use Rattle.tsn_model.proofs.Chains.{met_along}
@@ -13,16 +13,16 @@ use Rattle.tsn_diff.specs.Limits.{IsArcAmong}
 use Rattle.tsn_model.specs.Arcs.{chain_sum, start_of}
 use Rattle.tsn_diff.specs.Offsets.{Shows, Meets, IsLeast, chain_of}
 use Rattle.tsn_diff.specs.Forest.{Labelling, IsForest, IsRaised, Settles, chain_by, least_by}
-use Rattle.tsn_forest.specs.Forest.{last_of, Path, steps_back, indexes_of}
+use Rattle.tsn_diff.specs.Steps.{last_of, Path, steps_back, indexes_of}
 use Rattle.tsn_diff.specs.Progress.{Closes}
-use Rattle.tsn_forest.specs.Forest.Path.{here, back}
+use Rattle.tsn_diff.specs.Steps.Path.{here, back}
 use Rattle.tsn_diff.specs.Answers.{Solves, Refutes}
 use Rattle.tsn_diff.proofs.Cases.{by_option}
 use Rattle.tsn_diff.proofs.Views.{chain_of-least_by}
 use Rattle.tsn_diff.proofs.Paths.{Path-steps_back}
-use Rattle.tsn_forest.proofs.Paths.{length-path, length-path_any, steps_back_is, Rooted-here}
+use Rattle.tsn_diff.proofs.StepPaths.{length-path, length-path_any, steps_back_is, Rooted-here}
 use Rattle.tsn_diff.proofs.Sums.{leads_of, indexes_in, explained, start_of-leads, Leads-push, chain_sum-push}
-use Rattle.tsn_forest.proofs.Steps.{length-indexes_of}
+use Rattle.tsn_diff.proofs.Steps.{length-indexes_of}
 
 pub top_below : {last : List (Option Step)} {i r : ℕ} {ss : List Step} (n : ℕ) → ((j : ℕ) (s : Step) → last_of last j ≡ Some s → s.from < n) → Path last i ss r → i < n → r < n
 top_below n below here l = l

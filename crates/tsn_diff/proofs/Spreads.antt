@@ -6,18 +6,18 @@ use Rattle.std.proofs.lemmas.List.{get_or_append_left, get_or_push, length_push}
 use Rattle.tsn_model.specs.declared.Arc.{Arc}
 use Rattle.tsn_model.specs.Schedule.{offset_of}
 use Rattle.tsn_model.specs.Arcs.{arc_at, Holds}
-use Rattle.tsn_forest.specs.declared.forest.Step.{Step}
+use Rattle.tsn_diff.specs.declared.forest.Step.{Step}
 use Rattle.tsn_diff.specs.declared.spread.Stage.{Stage}
 use Rattle.tsn_diff.specs.declared.spread.Stage.TheVariants.{Fixed}
 use Rattle.tsn_diff.specs.declared.spread.Wave.{Wave}
 use Rattle.tsn_diff.specs.Forest.{Labelling}
-use Rattle.tsn_forest.specs.Forest.{last_of, Path}
-use Rattle.tsn_forest.specs.Forest.Path.{here, back}
+use Rattle.tsn_diff.specs.Steps.{last_of, Path}
+use Rattle.tsn_diff.specs.Steps.Path.{here, back}
 use Rattle.tsn_diff.specs.Progress.{passes_within, Closes}
 use Rattle.tsn_diff.specs.Spread.{Base, all_arcs, stage_of, IsWave}
 use Rattle.tsn_diff.proofs.Cases.{by_bool}
 use Rattle.tsn_diff.proofs.Paths.{Path-steps_back}
-use Rattle.tsn_forest.proofs.Paths.{Path-append, length-path_any}
+use Rattle.tsn_diff.proofs.StepPaths.{Path-append, length-path_any}
 
 -- a way back that is short enough is found by the test
 passes_along : {last : List (Option Step)} {i v : ℕ} {ss : List Step} (n : ℕ) → Path last i ss v → length ss < n → passes_within n last v i ≡ true

@@ -2,14 +2,14 @@ use Rattle.std.proofs.Common.{◌≡◌, ℕ, ◌*◌, ◌<◌, pos, ◌+ℤ◌,
 use Rattle.std.proofs.lemmas.Int.{ints}
 use Rattle.std.proofs.lemmas.List.Elements.{All-nil, All-head, All-tail, All-push}
 use Rattle.tsn_model.specs.declared.Arc.{Arc}
-use Rattle.tsn_forest.specs.declared.forest.Step.{Step}
+use Rattle.tsn_diff.specs.declared.forest.Step.{Step}
 use Rattle.tsn_model.specs.Arcs.{arc_at}
 use Rattle.tsn_diff.specs.Limits.{IsArcAmong}
 use Rattle.tsn_model.specs.Arcs.{Leads, chain_sum, start_of}
 use Rattle.tsn_diff.specs.Forest.{IsStep}
-use Rattle.tsn_forest.specs.Forest.{last_of, Path, indexes_of}
-use Rattle.tsn_forest.specs.Forest.Path.{here, back}
-use Rattle.tsn_forest.proofs.Steps.{indexes_of-cons}
+use Rattle.tsn_diff.specs.Steps.{last_of, Path, indexes_of}
+use Rattle.tsn_diff.specs.Steps.Path.{here, back}
+use Rattle.tsn_diff.proofs.Steps.{indexes_of-cons}
 
 pub Leads-push : (arcs : List Arc) (start : ℕ) (chain : List ℕ) (middle index : ℕ) → Leads arcs start chain middle → (arc_at arcs index).from ≡ middle → Leads arcs start (chain ++ index ∷ []) (arc_at arcs index).to
 Leads-push arcs start [] middle index l e = (e ∙ sym l, refl)

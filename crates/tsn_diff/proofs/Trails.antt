@@ -2,11 +2,11 @@ use Rattle.std.proofs.Common.{◌≡◌, ◌≢◌, ℕ, ◌⊎◌, List, [], �
 use Rattle.std.proofs.lemmas.Bool.{cases_eq}
 use Rattle.std.proofs.lemmas.List.{set-set, set_comm, set-get_or}
 use Rattle.std.proofs.lemmas.List.Elements.{All-nil, All-cons, All-contains, All-map, Contains-append_right}
-use Rattle.tsn_forest.specs.declared.forest.Step.{Step}
+use Rattle.tsn_diff.specs.declared.forest.Step.{Step}
 use Rattle.tsn_diff.specs.declared.trail.Former.{Former}
 use Rattle.tsn_model.specs.Schedule.{offset_of}
 use Rattle.tsn_diff.specs.Forest.{Labelling}
-use Rattle.tsn_forest.specs.Forest.{last_of}
+use Rattle.tsn_diff.specs.Steps.{last_of}
 use Rattle.tsn_diff.specs.Trail.{put_back, put_back_all}
 
 -- labels are the same where their lists are

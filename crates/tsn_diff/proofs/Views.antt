@@ -7,12 +7,12 @@ use Rattle.std.proofs.lemmas.List.FromFn.{get_or-map-range_with_len, length-map-
 use Rattle.std.proofs.lemmas.Option.{slice_get-get_or}
 use Rattle.tsn_model.specs.declared.Arc.{Arc}
 use Rattle.tsn_model.specs.Arcs.{arc_at}
-use Rattle.tsn_forest.specs.declared.forest.Step.{Step}
+use Rattle.tsn_diff.specs.declared.forest.Step.{Step}
 use Rattle.tsn_diff.specs.Offsets.{chain_of}
 use Rattle.tsn_diff.specs.Forest.{Labelling, IsForest, chain_by, least_by, step_of, labelling_by}
-use Rattle.tsn_forest.specs.Forest.{last_of, steps_back, indexes_of}
+use Rattle.tsn_diff.specs.Steps.{last_of, steps_back, indexes_of}
 use Rattle.tsn_diff.proofs.Cases.{by_option}
-use Rattle.tsn_forest.proofs.Steps.{indexes_of-cons, steps_none, steps_some}
+use Rattle.tsn_diff.proofs.Steps.{indexes_of-cons, steps_none, steps_some}
 
 -- a stream's chain is the one that its steps make
 pub chain_of-least_by : (releases : List ℕ) (arcs : List Arc) (labels : Labelling) (i : ℕ) → i < length labels.last → chain_of (least_by releases arcs labels) i ≡ chain_by labels i

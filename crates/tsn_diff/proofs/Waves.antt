@@ -7,15 +7,15 @@ use Rattle.std.proofs.lemmas.List.Elements.{All-push, All-weaker, Contains-appen
 use Rattle.tsn_model.specs.declared.Arc.{Arc}
 use Rattle.tsn_model.specs.Schedule.{offset_of}
 use Rattle.tsn_model.specs.Arcs.{arc_at, Holds}
-use Rattle.tsn_forest.specs.declared.forest.Step.{Step}
+use Rattle.tsn_diff.specs.declared.forest.Step.{Step}
 use Rattle.tsn_diff.specs.declared.listing.Indexed.{Indexed}
 use Rattle.tsn_diff.specs.declared.trail.Former.{Former}
 use Rattle.tsn_diff.specs.declared.spread.Stage.{Stage}
 use Rattle.tsn_diff.specs.declared.spread.Stage.TheVariants.{Calm, Fixed, Waiting, Settled}
 use Rattle.tsn_diff.specs.declared.spread.Wave.{Wave}
 use Rattle.tsn_diff.specs.Forest.{Labelling}
-use Rattle.tsn_forest.specs.Forest.{Path}
-use Rattle.tsn_forest.specs.Forest.Path.{here, back}
+use Rattle.tsn_diff.specs.Steps.{Path}
+use Rattle.tsn_diff.specs.Steps.Path.{here, back}
 use Rattle.tsn_diff.specs.Progress.{IsAsked}
 use Rattle.tsn_diff.specs.Trail.{IsTrail, former_of, put_back_all}
 use Rattle.tsn_diff.specs.Spread.{Base, all_arcs, IsIndexed, noted_by, stage_of, AreFixed, IsNoted, IsQueued, IsWave, AreQueued, IsSeen, GoesOn, queue_with, formers_with}

@@ -1,11 +1,11 @@
 use Rattle.std.specs.Prelude.{◌≡◌, ℕ, ◌-◌, ◌<◌, ◌≤◌, pos, ◌+ℤ◌, ◌≤ℤ◌, List, length, slice_index, slice_get, All, Option, Some, None, map}
 use Rattle.std.specs.List.{range_with_len}
 use Rattle.std.specs.Option.{option_map_or}
-use Rattle.tsn_forest.specs.Forest.{last_of, Rooted, steps_back, indexes_of}
+use Rattle.tsn_diff.specs.Steps.{last_of, Rooted, steps_back, indexes_of}
 use Rattle.tsn_model.specs.declared.Arc.{Arc}
-use Rattle.tsn_forest.specs.declared.forest.Step.{Step}
+use Rattle.tsn_diff.specs.declared.forest.Step.{Step}
 use Rattle.tsn_diff.specs.declared.solve.TheConstants.{MAX_RELEASE}
-use Rattle.tsn_forest.specs.declared.forest.TheConstants.{MAX_STREAMS}
+use Rattle.tsn_diff.specs.declared.forest.TheConstants.{MAX_STREAMS}
 use Rattle.tsn_model.specs.Arcs.{arc_at, HoldsAll}
 use Rattle.tsn_diff.specs.Limits.{IsArcAmong}
 use Rattle.tsn_diff.specs.Offsets.{LeastOffsets}

@@ -1,5 +1,7 @@
 pub mod Limits
 pub mod Offsets
+pub mod Steps
+pub mod Chains
 pub mod Forest
 pub mod Labels
 pub mod Progress

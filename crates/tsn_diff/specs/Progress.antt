@@ -5,9 +5,9 @@ use Rattle.tsn_diff.specs.declared.labels.Progress.{Progress}
 use Rattle.tsn_diff.specs.declared.labels.Progress.TheVariants.{Steady, Raised, Closed}
 use Rattle.tsn_model.specs.Schedule.{offset_of}
 use Rattle.tsn_model.specs.Arcs.{arc_at, Holds, HoldsAll}
-use Rattle.tsn_forest.specs.declared.forest.Step.{Step}
+use Rattle.tsn_diff.specs.declared.forest.Step.{Step}
 use Rattle.tsn_diff.specs.Forest.{Labelling, IsRaised}
-use Rattle.tsn_forest.specs.Forest.{last_of}
+use Rattle.tsn_diff.specs.Steps.{last_of}
 
 -- whether one of the first n streams on the way back from a stream is `through`
 abbrev pub passes_within : ℕ → List (Option Step) → ℕ → ℕ → Bool

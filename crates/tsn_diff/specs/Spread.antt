@@ -3,7 +3,7 @@ use Rattle.std.specs.Prelude.{◌≡◌, ℕ, ◌+◌, ◌<◌, ◌≤◌, ◌�
 use Rattle.tsn_model.specs.declared.Arc.{Arc}
 use Rattle.tsn_model.specs.Schedule.{offset_of}
 use Rattle.tsn_model.specs.Arcs.{arc_at, Holds, HoldsAll}
-use Rattle.tsn_forest.specs.declared.forest.Step.{Step}
+use Rattle.tsn_diff.specs.declared.forest.Step.{Step}
 use Rattle.tsn_diff.specs.declared.listing.Indexed.{Indexed}
 use Rattle.tsn_diff.specs.declared.listing.Listing.{Listing}
 use Rattle.tsn_diff.specs.declared.trail.Former.{Former}
@@ -13,7 +13,7 @@ use Rattle.tsn_diff.specs.declared.spread.Stage.TheVariants.{Calm, Fixed, Waitin
 use Rattle.tsn_diff.specs.declared.spread.Wave.{Wave}
 use Rattle.tsn_diff.specs.Limits.{IsArcAmong}
 use Rattle.tsn_diff.specs.Forest.{Labelling, IsForest}
-use Rattle.tsn_forest.specs.Forest.{Path, last_of}
+use Rattle.tsn_diff.specs.Steps.{Path, last_of}
 use Rattle.tsn_diff.specs.Progress.{KeepsRaised, IsAsked, Closes}
 use Rattle.tsn_diff.specs.Listing.{IsListing}
 use Rattle.tsn_diff.specs.Trail.{IsTrail, put_back_all}

@@ -2,7 +2,7 @@ use Rattle.std.specs.Prelude.{◌≡◌, ℕ, ◌<◌, List, [], ◌∷◌, map,
 use Rattle.tsn_diff.specs.declared.trail.Former.{Former}
 use Rattle.tsn_diff.specs.declared.trail.Trail.{Trail}
 use Rattle.tsn_diff.specs.Forest.{Labelling}
-use Rattle.tsn_forest.specs.Forest.{last_of}
+use Rattle.tsn_diff.specs.Steps.{last_of}
 
 -- the label that a stream has
 abbrev pub former_of : Labelling → ℕ → Former

@@ -3,12 +3,12 @@ ghost use Rattle.std.specs.Prelude.{◌≡◌, ◌++◌, ◌<◌, ◌≤◌, [],
 ghost use Rattle.tsn_model.specs.Arcs.{Holds};
 ghost use Rattle.tsn_diff.specs.Limits.{IsArcAmong};
 ghost use Rattle.tsn_diff.specs.Forest.{HasSteps, IsForest};
-ghost use Rattle.tsn_forest.specs.Forest.{steps_back, indexes_of};
+ghost use Rattle.tsn_diff.specs.Steps.{steps_back, indexes_of};
 ghost use Rattle.tsn_diff.specs.Progress.{KeepsRaised, IsAsked, passes_within, Corrects, CorrectsAll};
 ghost use Rattle.tsn_diff.specs.Labels.{labelling_of};
 
+use crate::forest::Step;
 use std::alloc::{AllocError, Global};
-use tsn_forest::Step;
 use tsn_model::Arc;
 
 /// For each stream the offset that it was raised to, and the last arc of the chain that raised it.

@@ -2,6 +2,7 @@
 //! after another: a system of difference constraints, solved by label correcting.
 #![tactic(auto)]
 
+pub mod forest;
 mod labels;
 mod listing;
 mod solve;
@@ -9,6 +10,6 @@ mod spread;
 mod stack;
 mod trail;
 
+pub use forest::{Forest, MAX_STREAMS, Step, Walk};
 pub use solve::{Feasibility, Least, MAX_RELEASE, MAX_WEIGHT, Net};
 pub use stack::ArcStack;
-pub use tsn_forest::{Forest, MAX_STREAMS, Walk};

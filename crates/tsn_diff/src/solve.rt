@@ -8,10 +8,10 @@ ghost use Rattle.tsn_diff.specs.Offsets.{chain_of};
 ghost use Rattle.tsn_diff.specs.Labels.{labelling_of};
 ghost use Rattle.tsn_diff.specs.Releases.{releases_of};
 
+use crate::forest::{Forest, MAX_STREAMS};
 use crate::labels::{Labels, Progress};
 use std::alloc::{AllocError, Global};
 use std::marker::Model;
-use tsn_forest::{Forest, MAX_STREAMS};
 use tsn_model::{Arc, NoMemory};
 
 /// The greatest weight of an arc, in either direction, in nanoseconds.
@@ -53,7 +53,7 @@ impl Model for Net {
     ghost use Rattle.std.specs.Prelude.{List, ℕ, All, length, ◌≤◌};
     ghost use Rattle.tsn_diff.specs.Releases.{releases_of};
     ghost use Rattle.tsn_diff.specs.declared.solve.TheConstants.{MAX_RELEASE};
-    ghost use Rattle.tsn_forest.specs.declared.forest.TheConstants.{MAX_STREAMS};
+    ghost use Rattle.tsn_diff.specs.declared.forest.TheConstants.{MAX_STREAMS};
 
     ghost Value = { List ℕ };
 

@@ -3,16 +3,16 @@ ghost use Rattle.std.specs.Prelude.{◌≡◌, [], ℕ, ◌<◌, ◌≤◌, IfOk
 ghost use Rattle.tsn_model.specs.Arcs.{Holds};
 ghost use Rattle.tsn_diff.specs.Labels.{labelling_of};
 ghost use Rattle.tsn_diff.specs.Forest.{HasSteps, IsForest};
-ghost use Rattle.tsn_forest.specs.Forest.{Rooted};
+ghost use Rattle.tsn_diff.specs.Steps.{Rooted};
 ghost use Rattle.tsn_diff.specs.Progress.{Closes};
 ghost use Rattle.tsn_diff.specs.Trail.{IsTrail, former_of};
 ghost use Rattle.tsn_diff.specs.Spread.{Base, queue_with, formers_with, IsClosing, IsRise, MeetsFrom, IsNoted, IsWave, IsTurn, IsStart, IsWide, GoesOn, AreCalm, AreFixed, IsLifted, stage_of, all_arcs};
 
+use crate::forest::MAX_STREAMS;
 use crate::labels::Labels;
 use crate::listing::{Indexed, Listing};
 use crate::trail::Trail;
 use std::alloc::{AllocError, Global};
-use tsn_forest::MAX_STREAMS;
 use tsn_model::Arc;
 
 /// How a stream stands while one more arc is taken into account.

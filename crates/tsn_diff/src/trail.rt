@@ -3,9 +3,9 @@ ghost use Rattle.std.specs.Prelude.{◌≡◌, ◌≤◌, ◌<◌, OnOk, OnErr, 
 ghost use Rattle.tsn_diff.specs.Labels.{labelling_of};
 ghost use Rattle.tsn_diff.specs.Trail.{IsTrail, former_of, put_back_all};
 
+use crate::forest::Step;
 use crate::labels::Labels;
 use std::alloc::AllocError;
-use tsn_forest::Step;
 
 /// The label that a stream had before it was raised.
 #[derive(Clone, Copy)]

@@ -3,7 +3,7 @@ ghost use Rattle.std.specs.Prelude.{◌≡◌, IfOk};
 
 use std::alloc::Global;
 use tsn_cert::{Chain, Chains};
-use tsn_forest::Forest;
+use tsn_diff::Forest;
 use tsn_model::NoMemory;
 
 /// Chains as a certificate has them, each whole.

@@ -1,6 +1,6 @@
 //! What a look at a node finds.
 use tsn_cert::{Leaf, LowerBound};
-use tsn_forest::Forest;
+use tsn_diff::Forest;
 use tsn_model::Triple;
 use tsn_timing::Solved;
 

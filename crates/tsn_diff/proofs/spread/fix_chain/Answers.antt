@@ -1,6 +1,6 @@
 use Rattle.std.proofs.Common.{◌≡◌, ◌<◌, length, None, refl, sym, ◌∙◌, arith, length-set}
 use Rattle.std.proofs.lemmas.List.{get_or_read}
-use Rattle.tsn_forest.specs.Forest.{last_of}
+use Rattle.tsn_diff.specs.Steps.{last_of}
 use Rattle.tsn_diff.proofs.Fixes.{AreFixedTo-none, AreFixedTo-more, AreFixedTo-short, AreFixed-root, none_lifted}
 use Rattle.tsn_diff.proofs.spread.fix_chain.Goals as goal
 

@@ -2,11 +2,11 @@ use Rattle.std.proofs.Common.{◌≡◌, ◌<◌, List, Option, [], map, sym, ap
 use Rattle.std.specs.List.{range_with_len}
 use Rattle.std.proofs.lemmas.List.{ext_get_or}
 use Rattle.std.proofs.lemmas.List.FromFn.{length-map-range_with_len, get_or-map-range_with_len}
-use Rattle.tsn_forest.specs.declared.forest.Step.{Step}
+use Rattle.tsn_diff.specs.declared.forest.Step.{Step}
 use Rattle.tsn_diff.specs.Labels.{labelling_of}
 use Rattle.tsn_diff.specs.Forest.{chain_by, least_by}
 use Rattle.tsn_diff.specs.Offsets.{chain_of}
-use Rattle.tsn_forest.specs.Chains.{IsRooted, chain_in}
+use Rattle.tsn_diff.specs.Chains.{IsRooted, chain_in}
 use Rattle.tsn_diff.proofs.Chained.{IsRooted-from_forest}
 use Rattle.tsn_diff.proofs.Views.{chain_of-least_by}
 use Rattle.tsn_diff.proofs.solve.Least.forest.Goals as goal

@@ -4,9 +4,9 @@ use Rattle.std.proofs.lemmas.Bool.{false≢true, eqb-true, ne_eqb, or_cases}
 use Rattle.std.proofs.lemmas.List.{length-map}
 use Rattle.std.proofs.lemmas.Map.Steps.{length-le_from_distinct_below}
 use Rattle.std.specs.List.{IsDistinct, AllByRecursion, list_any}
-use Rattle.tsn_forest.specs.declared.forest.Step.{Step}
-use Rattle.tsn_forest.specs.Forest.{last_of, Path, Rooted, steps_back}
-use Rattle.tsn_forest.specs.Forest.Path.{here, back}
+use Rattle.tsn_diff.specs.declared.forest.Step.{Step}
+use Rattle.tsn_diff.specs.Steps.{last_of, Path, Rooted, steps_back}
+use Rattle.tsn_diff.specs.Steps.Path.{here, back}
 
 -- two ways back from one stream to a root are equally long
 pub length-path_same : {last : List (Option Step)} {i r q : ℕ} {ss ts : List Step} → Path last i ss r → last_of last r ≡ None → Path last i ts q → last_of last q ≡ None → length ss ≡ length ts

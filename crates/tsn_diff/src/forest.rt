@@ -1,8 +1,8 @@
 //! Chains of least offsets, each kept by its last arc.
 ghost use Rattle.std.specs.Prelude.{◌≡◌, ◌++◌, ◌<◌, ◌≤◌, ◌∷◌, [], IfOk, MatchOption, length, map, take, slice_index_or};
 ghost use Rattle.std.specs.List.{range_with_len};
-ghost use Rattle.tsn_forest.specs.Chains.{IsRooted, chain_in};
-ghost use Rattle.tsn_forest.specs.declared.forest.TheConstants.{MAX_STREAMS};
+ghost use Rattle.tsn_diff.specs.Chains.{IsRooted, chain_in};
+ghost use Rattle.tsn_diff.specs.declared.forest.TheConstants.{MAX_STREAMS};
 
 use std::alloc::{AllocError, Global};
 use std::marker::Model;
@@ -28,7 +28,7 @@ pub struct Forest {
 impl Model for Forest {
     ghost use Rattle.std.specs.Prelude.{◌≤◌, List, ℕ, length, map};
     ghost use Rattle.std.specs.List.{range_with_len};
-    ghost use Rattle.tsn_forest.specs.Chains.{IsRooted, chain_in};
+    ghost use Rattle.tsn_diff.specs.Chains.{IsRooted, chain_in};
 
     ghost Value = { List (List ℕ) };
 
@@ -46,7 +46,7 @@ pub struct Walk<'a> {
 
 impl<'a> Model for Walk<'a> {
     ghost use Rattle.std.specs.Prelude.{◌<◌, List, ℕ, length};
-    ghost use Rattle.tsn_forest.specs.Chains.{IsRooted, chain_in};
+    ghost use Rattle.tsn_diff.specs.Chains.{IsRooted, chain_in};
 
     ghost Value = { List ℕ };
 

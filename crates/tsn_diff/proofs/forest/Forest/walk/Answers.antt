@@ -1,8 +1,8 @@
 use Rattle.std.proofs.Common.{[], length, sym, ap, ◌∙◌, subst, arith}
 use Rattle.std.proofs.lemmas.List.FromFn.{length-map-range_with_len, get_or-map-range_with_len}
-use Rattle.tsn_forest.specs.Chains.{IsRooted, chain_in}
-use Rattle.tsn_forest.proofs.Chained.{chain_short}
-use Rattle.tsn_forest.proofs.forest.Forest.walk.Goals as goal
+use Rattle.tsn_diff.specs.Chains.{IsRooted, chain_in}
+use Rattle.tsn_diff.proofs.ChainedSteps.{chain_short}
+use Rattle.tsn_diff.proofs.forest.Forest.walk.Goals as goal
 
 pub invariant_of-result : goal.invariant_of-result
 invariant_of-result c =

@@ -1,7 +1,7 @@
 -- The steps back from a stream.
 use Rattle.std.specs.Prelude.{◌≡◌, ℕ, zero, suc, ◌==◌, Bool, false, cond, List, [], ◌∷◌, slice_index_or, Option, Some, None, map, reverse}
 use Rattle.std.specs.Option.{option_map_or}
-use Rattle.tsn_forest.specs.declared.forest.Step.{Step}
+use Rattle.tsn_diff.specs.declared.forest.Step.{Step}
 
 -- the last step of a stream's chain
 abbrev pub last_of : List (Option Step) → ℕ → Option Step

@@ -2,8 +2,8 @@
 use Rattle.std.proofs.Common.{◌≡◌, ℕ, zero, suc, ◌-◌, ◌<◌, List, [], ◌∷◌, ◌++◌, length, map, Option, Some, None, refl, ◌∙◌, arith}
 use Rattle.std.proofs.lemmas.List.{length-map, length-reverse}
 use Rattle.std.proofs.lemmas.Grind.{reverse_onto}
-use Rattle.tsn_forest.specs.declared.forest.Step.{Step}
-use Rattle.tsn_forest.specs.Forest.{last_of, steps_back, indexes_of}
+use Rattle.tsn_diff.specs.declared.forest.Step.{Step}
+use Rattle.tsn_diff.specs.Steps.{last_of, steps_back, indexes_of}
 
 -- the indexes of one more step back come after it
 pub indexes_of-cons : (s : Step) (ss : List Step) → indexes_of (s ∷ ss) ≡ indexes_of ss ++ s.index ∷ []

@@ -1,8 +1,8 @@
 -- Chains that are kept by the last arc of each.
 use Rattle.std.specs.Prelude.{◌≡◌, ℕ, ◌<◌, ◌≤◌, List, length, Option, Some, None}
-use Rattle.tsn_forest.specs.declared.forest.Step.{Step}
-use Rattle.tsn_forest.specs.declared.forest.TheConstants.{MAX_STREAMS}
-use Rattle.tsn_forest.specs.Forest.{last_of, Rooted, steps_back, indexes_of}
+use Rattle.tsn_diff.specs.declared.forest.Step.{Step}
+use Rattle.tsn_diff.specs.declared.forest.TheConstants.{MAX_STREAMS}
+use Rattle.tsn_diff.specs.Steps.{last_of, Rooted, steps_back, indexes_of}
 
 -- the chain that a stream's steps make
 abbrev pub chain_in : List (Option Step) → ℕ → List ℕ
