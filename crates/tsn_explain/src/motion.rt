@@ -252,11 +252,15 @@ impl Narrator<'_, '_> {
 
 // The frames with one more, by the numbers of their streams and then by their shifts.
 fn with_frame(alloc: Global, others: &[Frame], frame: Frame) -> Result<Vec<Frame>, AllocError> {
-    let mut all = vec![in alloc; frame]?;
+    let mut keys = vec![in alloc; (frame.stream, frame.shift)]?;
     for other in others {
-        all.push(*other)?;
+        keys.push((other.stream, other.shift))?;
     }
-    all.sort_by_key(|frame| (frame.stream, frame.shift))?;
+    keys.sort()?;
+    let mut all = Vec::new(alloc);
+    for (stream, shift) in keys {
+        all.push(Frame { stream, shift })?;
+    }
     Ok(all)
 }
 

@@ -9,12 +9,9 @@ use tsn_cert::{Argument, Clause, Move, Plan, Step};
 use tsn_check::CheckFault;
 use tsn_timing::Problem;
 
-// Where an argument shows a fact: in a step, at place 0 by what it supposes, at 1 and 2 by its first move, and so on.
-#[derive(Clone, Copy, Drop, PartialEq, Eq, PartialOrd, Ord)]
-struct Source {
-    step: usize,
-    place: usize,
-}
+// Where an argument shows a fact: the number of a step, and the place there: 0 for what it supposes, 1 and 2 for its first move, and
+// so on.
+type Source = (usize, usize);
 
 /// The moves by which an argument shows that no flowspan is below its target, and their steps.
 #[derive(Drop)]
@@ -29,13 +26,13 @@ impl Part {
     /// flowspan, or at all.
     pub fn has_first(&self, step: usize, number: usize) -> bool {
         let place = number.wrapping_mul(2).wrapping_add(1);
-        self.needed.contains(&Source { step, place })
+        self.needed.contains(&(step, place))
     }
 
     /// Whether its second fact is: what it says of the first stream of an order, or of the stream that arrives.
     pub fn has_second(&self, step: usize, number: usize) -> bool {
         let place = number.wrapping_mul(2).wrapping_add(2);
-        self.needed.contains(&Source { step, place })
+        self.needed.contains(&(step, place))
     }
 }
 
@@ -52,7 +49,8 @@ pub fn part_of(
         ground: BTreeMap::new(alloc),
         view: BTreeMap::new(alloc),
         clauses: 0,
-        now: Source { step: 0, place: 0 },
+        step: 0,
+        place: 0,
         needs: Vec::new(alloc),
         kept: None,
         showing: None,
@@ -77,7 +75,8 @@ struct Tracker {
     // How many clauses were shown.
     clauses: usize,
     // Where the argument is.
-    now: Source,
+    step: usize,
+    place: usize,
     // Where something was needed, in the argument's order, and from where that is.
     needs: Vec<(Source, Source)>,
     // What the ground learns where the step under way ends, and whether that contradicts it.
@@ -91,7 +90,7 @@ impl Listener for Tracker {
     ghost heard = { λ _. None };
 
     fn begin(&mut self, ground: &View<'_>, step: &Step) {
-        self.now.place = 0;
+        self.place = 0;
         let facts = step.clause.list();
         for fact in facts {
             if let Some((news, is_against)) = unknown(ground, News::opposite_of(*fact)) {
@@ -130,26 +129,32 @@ impl Listener for Tracker {
         } else {
             self.view = BTreeMap::new(self.alloc);
             let clause = Use::Clause(self.clauses);
-            self.is_refused |= self.ground.insert(clause, self.now).is_err();
+            let now = self.now();
+            self.is_refused |= self.ground.insert(clause, now).is_err();
             self.clauses = self.clauses.wrapping_add(1);
             self.keep_news();
         }
-        self.now.step = self.now.step.wrapping_add(1);
+        self.step = self.step.wrapping_add(1);
     }
 }
 
 impl Reader for Tracker {
     fn read(&mut self, part: Use) {
         if let Some(source) = self.source_of(part) {
-            self.is_refused |= self.needs.push((self.now, source)).is_err();
+            let now = self.now();
+            self.is_refused |= self.needs.push((now, source)).is_err();
         }
     }
 }
 
 impl Tracker {
+    fn now(&self) -> Source {
+        (self.step, self.place)
+    }
+
     // The next fact of a move begins.
     fn go_on(&mut self) {
-        self.now.place = self.now.place.wrapping_add(1);
+        self.place = self.place.wrapping_add(1);
     }
 
     // From where a part is, if it is from a step.
@@ -159,7 +164,8 @@ impl Tracker {
 
     // A fact is shown here.
     fn note(&mut self, news: News, is_against: bool) {
-        self.is_refused |= self.view.insert(Use::of(news), self.now).is_err();
+        let now = self.now();
+        self.is_refused |= self.view.insert(Use::of(news), now).is_err();
         if is_against {
             self.read(Use::against(news));
         }
@@ -193,7 +199,7 @@ impl Tracker {
             return;
         }
         if is_impossible {
-            self.showing = Some(self.now);
+            self.showing = Some(self.now());
         } else if low >= self.target {
             self.showing = self.source_of(Use::LeastDone);
         }
@@ -205,9 +211,9 @@ impl Tracker {
         }
         let needed = self.needed()?;
         let mut steps = Vec::new(self.alloc);
-        for source in &needed {
-            if steps.last() != Some(&source.step) {
-                steps.push(source.step)?;
+        for (step, _) in &needed {
+            if steps.last() != Some(step) {
+                steps.push(*step)?;
             }
         }
         Ok(Part { steps, needed })

@@ -56,12 +56,23 @@ impl fmt::Display for Frames<'_, '_> {
                 return write!(f, " and {} more", count.wrapping_sub(place));
             }
             let name = network.name(frame.stream);
-            write!(f, "{}{name}", joint(place, count, " and "))?;
-            if frame.shift > 0 {
-                write!(f, " ({} ns later)", Grouped(frame.shift as i128))?;
-            }
+            let before = joint(place, count, " and ");
+            write!(f, "{before}{name}{}", Later(frame.shift))?;
         }
         Ok(())
+    }
+}
+
+// By how much a frame is later than its stream's first one, where it is.
+#[derive(Clone, Copy)]
+struct Later(u64);
+
+impl fmt::Display for Later {
+    fn fmt<W: fmt::Write>(&self, f: &mut fmt::Formatter<W>) -> fmt::Result {
+        if self.0 == 0 {
+            return Ok(());
+        }
+        write!(f, " ({} ns later)", Grouped(self.0 as i128))
     }
 }
 
