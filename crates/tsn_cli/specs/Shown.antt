@@ -1,13 +1,18 @@
 -- What is shown of a plan, before it is written.
 --     shown_output, IsShownBy     its output
---     IsSaid, shown_said          it is an answer in a line
-use Rattle.std.specs.Prelude.{◌≡◌, List, [], ◌∷◌, string_bytes, Result, Ok, Err}
+--     IsSaid, IsToldAs            it is an answer in a line; how it is told
+--     NetworkAnswers              what a command answers that reads a network alone
+use Rattle.std.specs.Prelude.{◌≡◌, ◌⊎◌, ℕ, List, [], ◌∷◌, Bool, string_bytes, Result, Ok, Err}
+use Rattle.tsn_net.specs.File.{States}
+use Rattle.tsn_timing.specs.Problem.{NamedNetwork}
 use Rattle.tsn_device.specs.declared.device.ReadFault.{ReadFault}
 use Rattle.tsn_cli.specs.declared.showing.Shown.{Shown}
 use Rattle.tsn_cli.specs.declared.showing.Shown.TheVariants.{Text, Said}
 use Rattle.tsn_given.specs.declared.answer.Answer.{Answer}
-use Rattle.tsn_given.specs.Run.{Output}
-use Rattle.tsn_given.specs.Outcome.{output_of}
+use Rattle.tsn_given.specs.Run.{Command, Output, SinkRun}
+use Rattle.tsn_given.specs.Runs.{IsToldBy}
+use Rattle.tsn_given.specs.Outcome.{IsWrittenAs, output_of}
+use Rattle.tsn_reason.specs.Refusal.{RefusesNetwork}
 
 -- a text that was asked for, or an answer in a line
 abbrev pub shown_output : Result Shown ReadFault → Output
@@ -22,6 +27,13 @@ abbrev pub IsSaid : Shown → Type 0
 IsSaid (Text text remarks) = ⊥
 IsSaid (Said answer) = Unit {0}
 
-abbrev pub shown_said : Result Answer ReadFault → Result Shown ReadFault
-shown_said (Ok answer) = Ok (Said answer)
-shown_said (Err fault) = Err fault
+-- what is shown went to the output: a text, or the answer in a line, or what is said of that in JSON
+abbrev pub IsToldAs : Bool → Result Shown ReadFault → SinkRun → ℕ → Type 0
+IsToldAs json (Ok (Text text remarks)) output status = IsWrittenAs IsShownBy (Ok (Text text remarks)) (output ∷ []) status
+IsToldAs json (Ok (Said answer)) output status = IsToldBy json (Ok answer) output status
+IsToldAs json (Err fault) output status = IsToldBy json (Err fault) output status
+
+-- the answer for a network file, by what is shown of the network
+abbrev pub NetworkAnswers : (NamedNetwork → Output → Type 0) → Command
+NetworkAnswers Shows (file ∷ []) output = RefusesNetwork file output ⊎ ((problem : NamedNetwork) × States file problem × Shows problem output)
+NetworkAnswers Shows _ output = ⊥

@@ -1,22 +1,21 @@
 //! `check`: judges a plan and its certificate.
-ghost use Rattle.std.specs.Prelude.{◌≡◌, ◌<◌, ◌-◌, ◌^◌, [], ◌∷◌, IfOk, Ok};
+ghost use Rattle.std.specs.Prelude.{◌<◌, ◌-◌, ◌^◌, [], ◌∷◌, IfOk, Ok};
 ghost use Rattle.tsn_given.specs.Run.{RunsOver, sink_over, source_over};
 ghost use Rattle.tsn_given.specs.Outcome.{IsOutcome, output_of};
-ghost use Rattle.tsn_cli.specs.Shown.{IsSaid, shown_said};
 ghost use Rattle.tsn_reason.specs.Check.{CheckAnswers, accepted};
 
 use crate::certified::certified_shown;
-use crate::showing::{Showing, Shown};
+use crate::showing::{Showing, show};
 use std::alloc::Global;
 use tsn_cert::Plan;
 use tsn_check::Verdict;
-use tsn_device::device::{ReadFault, Sink, Source};
-use tsn_given::run::respond;
+use tsn_device::device::{Sink, Source};
 use tsn_given::{Answer, Outcome};
 use tsn_model::NoMemory;
 
 /// Reads a network file, a plan file and a certificate file of format 1, 2 or 3, each judged before the next is read, and writes a
 /// line on the first that is refused, or on what the certificate shows. The answer is the status.
+#[tactic(auto, using(crate::proofs::CommandLemmas::shown_runs))]
 pub fn check_run<N: Source, P: Source, C: Source, W: Sink>(
     alloc: Global,
     network: &mut N,
@@ -35,20 +34,10 @@ pub fn check_run<N: Source, P: Source, C: Source, W: Sink>(
         ∷ source_over C.given C.failed C.is_at_end cert.old cert.new ∷ [])
         (sink_over W.taken W.failed sink.old sink.new ∷ []) result }
 {
-    let shown = certified_shown(alloc, network, plan, cert, Showing::Verdict);
-    respond(sink, &said(shown))
-}
-
-/// An answer in a line, which is all that is said of a verdict.
-pub(crate) fn said(shown: Result<Shown, ReadFault>) -> Result<Answer, ReadFault>
-    requires { IfOk shown IsSaid }
-    ensures { shown_said result ≡ shown }
-{
-    match shown {
-        Ok(Shown::Said(answer)) => Ok(answer),
-        Ok(Shown::Text(_, _)) => unreachable!(),
-        Err(fault) => Err(fault),
-    }
+    show(
+        sink,
+        &certified_shown(alloc, network, plan, cert, Showing::Verdict),
+    )
 }
 
 /// What is said of a plan whose certificate is accepted with this verdict.

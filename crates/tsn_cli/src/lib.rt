@@ -4,6 +4,7 @@
 
 mod certified;
 mod check;
+mod network;
 pub mod options;
 mod showing;
 pub mod shown;
@@ -14,8 +15,10 @@ mod valid;
 
 pub use certified::certified_shown;
 pub use check::check_run;
+pub use network::{NetworkView, network_shown};
 pub use showing::{Showing, Shown, show};
 pub use table::{GatesOptions, ReplayOptions, Table};
 pub use tables::{gates_run, replay_run, table_shown};
+pub use tsn_timing::Problem;
 pub use tsn_words::{GatesFormat, ReplayFormat, StreamsFormat};
-pub use valid::{valid_answer, valid_run};
+pub use valid::{Offsets, valid_run};

@@ -25,18 +25,11 @@ pub fn gates_options(words: GatesWords<'_>) -> GatesOptions
 pub fn replay_options(words: ReplayWords<'_>) -> ReplayOptions
     ensures { result ≡ replay_options words.entry }
 {
-    let ReplayWords {
-        cycles,
-        greedy,
-        format,
-        merge,
-        ..
-    } = words;
     ReplayOptions {
-        cycles,
-        greedy,
-        format,
-        merge,
+        cycles: words.cycles,
+        greedy: words.greedy,
+        format: words.format,
+        merge: words.merge,
     }
 }
 

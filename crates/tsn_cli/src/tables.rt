@@ -28,6 +28,7 @@ use tsn_words::{ReplayFormat, StreamsFormat};
 
 /// Reads a network file and a plan file, the first judged before the second is read, and writes the plan's gate control
 /// lists, merged where that is asked for, in a format, or a line on what is refused. The answer is the status.
+#[tactic(auto, using(crate::proofs::CommandLemmas::shown_runs))]
 pub fn gates_run<N: Source, P: Source, W: Sink>(
     alloc: Global,
     network: &mut N,
@@ -53,6 +54,7 @@ pub fn gates_run<N: Source, P: Source, W: Sink>(
 /// Reads a network file and a plan file, the first judged before the second is read, and writes, in a format, a
 /// replay of the plan by its gate control lists, merged where that is asked for, over 1 to 16 cycles, with no background or, where
 /// `greedy`, with a background frame of 1522 octets always waiting; or a line on what is refused. The answer is the status.
+#[tactic(auto, using(crate::proofs::CommandLemmas::shown_runs))]
 pub fn replay_run<N: Source, P: Source, W: Sink>(
     alloc: Global,
     network: &mut N,

@@ -12,11 +12,11 @@ use std::sync::Wait;
 use std::thread::Threads;
 use std::time::Clock;
 use tsn_cli::options::{gates_options, replay_options};
-use tsn_cli::shown::{certified, check, picture, table, valid};
-use tsn_cli::{Showing, Table};
+use tsn_cli::shown::{certified, network, picture, table};
+use tsn_cli::{Offsets, Showing, Table};
 use tsn_given::{Given, Made, Ran};
 use tsn_prover::prove;
-use tsn_words::Words;
+use tsn_words::{CheckWords, ExplainWords, Words};
 
 /// Runs a command over what its words name, and says the status. Where a file is refused, or a device fails, a line is told on why.
 /// How far a search has got is told on a console, where the words ask for it.
@@ -55,11 +55,27 @@ pub fn run_to<'a, T: Threads + Wait + Sync, C: Clock + Eprint + Sync, G: Given<'
         (sink_over W.taken W.failed output result.output) result.status }
 {
     match words {
-        Words::Valid(words) => valid(alloc, given, output, &words),
+        Words::Valid(words) => {
+            let offsets = Offsets(&words.offsets);
+            network(alloc, given, output, words.network, &offsets, words.json)
+        }
         Words::Plan(words) => plan(rt, console, alloc, given, output, words),
-        Words::Check(words) => check(alloc, given, output, words),
+        Words::Check(words) => {
+            let CheckWords {
+                network,
+                plan,
+                cert,
+                json,
+            } = words;
+            let files = ExplainWords {
+                network,
+                plan,
+                cert,
+            };
+            certified(alloc, given, output, files, Showing::Verdict, json)
+        }
         Words::Prove(words) => prove(console, alloc, given, output, words),
-        Words::Explain(words) => certified(alloc, given, output, words, Showing::Words),
+        Words::Explain(words) => certified(alloc, given, output, words, Showing::Words, false),
         Words::Gates(words) => {
             let lists = Table::Gates(gates_options(words));
             table(alloc, given, output, words.network, words.plan, lists)
