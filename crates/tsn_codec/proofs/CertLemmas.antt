@@ -1,19 +1,16 @@
 -- A printed certificate is read again.
-use Rattle.std.proofs.Common.{Result, Err, IfOk, IsOkAnd, OnOk, ◌≡◌, ◌≤◌, ◌<◌, ◌+◌, ℕ, List, [], ◌∷◌, ◌++◌, length, take, get_or, map, Bool, true, false, Option, Some, None, Ok, refl, sym, ap, ap₂, ◌∙◌, arith, lit≤, Vec, w64, FitsSigned}
+use Rattle.std.proofs.Common.{Result, Err, IfOk, IsOkAnd, OnOk, ◌≡◌, ◌≤◌, ℕ, List, [], ◌∷◌, ◌++◌, length, Bool, true, false, Option, Some, None, Ok, refl, sym, ap, ap₂, ◌∙◌, arith, w64, FitsSigned}
 use Rattle.std.proofs.lemmas.Bool.Decides.{nat_tests}
 use Rattle.std.proofs.lemmas.Bool.{eqb-true}
 use Rattle.std.specs.Option.{option_or}
 use Rattle.std.specs.Prelude.{option_and_then, option_map, nat_le, ◌&&◌, ◌==◌, if◌then◌else◌}
 use Rattle.serde_json.specs.Data.{Data}
-use Rattle.std.specs.declared.alloc.Global.{Global}
-use Rattle.serde_json.specs.View.{view}
-use Rattle.serde_json.specs.declared.value.Value.{Value, Array}
 use Rattle.tsn_model.specs.declared.Triple.{Triple}
 use Rattle.tsn_model.specs.declared.Frame.{Frame}
-use Rattle.tsn_model.specs.Certificate.{Node, split_node, leaf_node, tie_node, Leaf, late, overrun, positive_cycle, load, overload, Entry}
-use Rattle.tsn_cert.specs.Json.{when, value_of, each, elements, number_value, array_value}
+use Rattle.tsn_model.specs.Certificate.{split_node, leaf_node, tie_node, late, overrun, positive_cycle, load, overload, Entry}
+use Rattle.tsn_cert.specs.Json.{when, value_of, number_value, array_value}
 use Rattle.tsn_cert.specs.Fault.{shaped, answer}
-use Rattle.tsn_cert.specs.Cert.{chain_list, chains_of, chains_value, tie_value, format_number, format_of, are_of, chain_of, first_frame, triple_parts, lag_items, entry_of, entry_list, entries_of, entries_value, node_of, nodes_of, cert_of, cert_fits, cert_in, chain_value, entry_value, leaf_value, node_value, nodes_value, cert_value}
+use Rattle.tsn_cert.specs.Cert.{chain_list, chains_of, chains_value, format_number, format_of, are_of, chain_of, first_frame, triple_parts, lag_items, entry_of, entry_list, entries_of, entries_value, node_of, nodes_of, cert_of, cert_fits, cert_in, chain_value, entry_value, node_value, nodes_value, cert_value}
 use Rattle.tsn_cert.specs.declared.cert.Cert.{Cert}
 use Rattle.tsn_cert.specs.declared.cert.Format.{Format}
 use Rattle.tsn_cert.specs.declared.cert.Format.TheVariants.{One, Two}

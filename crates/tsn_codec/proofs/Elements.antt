@@ -1,11 +1,9 @@
 -- The elements of an array, taken one after another.
-use Rattle.std.proofs.Common.{◌≡◌, ◌<◌, ◌≤◌, ◌-◌, ℕ, zero, suc, List, [], ◌∷◌, ◌++◌, length, map, Option, Some, None, Ok, Err, refl, sym, ap, ◌∙◌, append_assoc, append-nil, arith}
-use Rattle.std.specs.Prelude.{option_and_then, option_map}
+use Rattle.std.proofs.Common.{◌≡◌, ◌<◌, ◌≤◌, ◌-◌, ℕ, zero, suc, List, [], ◌∷◌, ◌++◌, length, map, Option, Some, None, refl, sym, ap, ◌∙◌, append_assoc, append-nil, arith}
+use Rattle.std.specs.Prelude.{option_and_then}
 use Rattle.std.proofs.lemmas.List.{map-append}
 use Rattle.json.specs.Token.{Token}
 use Rattle.json.specs.Json.{Parse, parse_map, after_end_array}
-use Rattle.tsn_cert.specs.Fault.{named}
-use Rattle.tsn_cert.specs.declared.fault.FileFault.TheVariants.{WrongShape}
 use Rattle.tsn_cert.specs.Form.{many, elements_taken}
 use Rattle.tsn_cert.proofs.Many.{many_over, many_more}
 use Rattle.tsn_codec.specs.Takes.{FaultOf}

@@ -28,7 +28,7 @@ value_of-refused bytes h = when_none (is_utf8 bytes) (read bytes) (λ e. h (IsUt
 
 -- ---- a reader's answer
 
-named_ok : {A : Type 0} (fault : FileFault) (o : Option A) (x : A) → named fault o ≡ Ok x → o ≡ Some x
+pub named_ok : {A : Type 0} (fault : FileFault) (o : Option A) (x : A) → named fault o ≡ Ok x → o ≡ Some x
 named_ok fault None x e = cc
 named_ok fault (Some y) x e = cc
 

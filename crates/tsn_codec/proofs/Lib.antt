@@ -1,4 +1,8 @@
 pub mod JsonLemmas
+pub mod Firsts
+pub mod Above
+pub mod Misfits
+pub mod ToldLemmas
 pub mod Elements
 pub mod Pairs
 pub mod Lists

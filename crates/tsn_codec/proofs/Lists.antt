@@ -6,10 +6,10 @@ use Rattle.json.specs.Token.{Token}
 use Rattle.json.specs.Token as token
 use Rattle.json.specs.Json as json
 use Rattle.json.specs.Lex.{tokens}
-use Rattle.json.specs.Json.{Parse, parse_map, after_end_array, items, value, if_last}
+use Rattle.json.specs.Json.{Parse, parse_map, after_end_array, items, members, value, value_with, if_last}
 use Rattle.json.proofs.Grammar.{left, skip_value-shorter, items_fail, items_more, value-begin_array}
-use Rattle.serde_json.specs.Data.{Data, Items, item, array}
-use Rattle.serde_json.specs.Read.{of_json, of_items, converted, read}
+use Rattle.serde_json.specs.Data.{Data, Items, item, array, object, number, string, boolean, null, no_members}
+use Rattle.serde_json.specs.Read.{of_json, of_items, of_members, number_of, converted, read}
 use Rattle.tsn_cert.specs.Json.{listed, elements, each}
 use Rattle.tsn_cert.specs.Form.{Form, list, many, elements_taken, after_begin_array}
 use Rattle.tsn_cert.specs.Says.{value_read, Says}
@@ -20,6 +20,10 @@ use Rattle.tsn_codec.specs.declared.list.Unlisted.{Unlisted}
 use Rattle.tsn_codec.specs.declared.list.Unlisted.TheVariants.{NoArray, Behind, Memory}
 use Rattle.tsn_codec.specs.Takes.{FaultOf}
 use Rattle.tsn_codec.proofs.Pairs.{both_same, never_some}
+use Rattle.std.specs.Prelude.{is_some, slice_get}
+use Rattle.std.proofs.lemmas.List.{length-map}
+use Rattle.tsn_codec.specs.Matter.{IsFirstOther, IsFirstWithout}
+use Rattle.tsn_codec.proofs.Firsts.{passing, placed_first}
 use Rattle.tsn_codec.specs.Lists.{Stops, StopsAt, TakesElements, TakesList, ReadsList, unread}
 
 -- ---- a list that stops is none
@@ -135,6 +139,38 @@ whole_array (token.boolean b ∷ ts) inner e = absurd (cc)
 whole_array (token.null ∷ ts) inner e = absurd (cc)
 whole_array (token.bad ∷ ts) inner e = absurd (cc)
 
+other_data : {A : Type 0} (f : A → Data) (o : Option A) (d : Data) (ts r : List Token) → ((x : A) → elements (f x) ≡ None)
+    → option_map {U = Data × List Token} (λ d. (d, ts)) (option_map f o) ≡ Some (d, r) → elements d ≡ None
+other_data f None d ts r h e = never_some (d, r) e
+other_data f (Some x) d ts r h e = subst (λ d. elements d ≡ None) (both_same (f x, ts) (d, r) e).0 (h x)
+
+object_data : (o : Option (json.Members × List Token)) (d : Data) (r : List Token) → converted of_json (parse_map json.object o) ≡ Some (d, r)
+    → elements d ≡ None
+object_data None d r e = never_some (d, r) e
+object_data (Some p) d r e = other_data object (of_members p.0 no_members) d p.1 r (λ ms. refl) e
+
+-- a value whose tokens begin with no bracket is no array
+no_array_with : (a : Parse json.Items) (o : Parse json.Members) (ts : List Token) (d : Data) (rest : List Token)
+    → converted of_json (value_with a o ts) ≡ Some (d, rest) → after_begin_array ts ≡ None → elements d ≡ None
+no_array_with a o [] d rest e none = never_some (d, rest) e
+no_array_with a o (token.begin_object ∷ ts) d rest e none = object_data (o ts) d rest e
+no_array_with a o (token.end_object ∷ ts) d rest e none = never_some (d, rest) e
+no_array_with a o (token.begin_array ∷ ts) d rest e none = absurd (cc)
+no_array_with a o (token.end_array ∷ ts) d rest e none = never_some (d, rest) e
+no_array_with a o (token.key s ∷ ts) d rest e none = never_some (d, rest) e
+no_array_with a o (token.string s ∷ ts) d rest e none = other_data string (Some s) d ts rest (λ x. refl) e
+no_array_with a o (token.number s ∷ ts) d rest e none = other_data number (number_of s) d ts rest (λ x. refl) e
+no_array_with a o (token.boolean b ∷ ts) d rest e none = other_data boolean (Some b) d ts rest (λ x. refl) e
+no_array_with a o (token.null ∷ ts) d rest e none = other_data (λ u. null) (Some tt) d ts rest (λ (u : Unit {0}). refl) e
+no_array_with a o (token.bad ∷ ts) d rest e none = never_some (d, rest) e
+
+pub no_array : (depth : ℕ) (ts : List Token) (d : Data) (rest : List Token) → value_read depth ts ≡ Some (d, rest) → after_begin_array ts ≡ None
+    → elements d ≡ None
+unfolding value
+no_array zero ts d rest e none = no_array_with (λ ts. None) (λ ts. None) ts d rest e none
+no_array (suc k) ts d rest e none =
+    no_array_with (λ ts. items (value k) (length ts) ts) (λ ts. members (value k) (length ts) ts) ts d rest e none
+
 array_of : (d : Data) (rest : List Token) (o : Option (Items × List Token)) → parse_map array o ≡ Some (d, rest)
     → (is : Items) × (d ≡ array is) × (o ≡ Some (is, rest))
 array_of d rest None e = never_some (d, rest) e
@@ -190,9 +226,7 @@ pub list_read : {X A : Type 0} (seen : X → A) (form : Form A) → Says 8 form 
     → value_read 127 ts ≡ Some (d, []) → TakesList seen form result ts rest → ReadsList seen form result d
 list_read seen form says (Ok found) ts rest d e h =
     (says_some ((list form).said d) [] rest (map seen found.items) (says_of 9 (list form) (list_says 8 form says) 127 (lit≤ tt) ts d [] e ∙ h)).0
-list_read seen form says (Err NoArray) ts rest d e h =
-    says_none ((list form).said d) []
-    (says_of 9 (list form) (list_says 8 form says) 127 (lit≤ tt) ts d [] e ∙ ap (option_and_then (elements_taken form.taken)) h)
+list_read seen form says (Err NoArray) ts rest d e h = no_array 127 ts d [] e h
 list_read seen form says (Err (Behind found)) ts rest d e h = stops_value 8 form says 127 (lit≤ tt) (map seen found.items) ts h.0 d [] e h.1 h.2
 list_read seen form says (Err Memory) ts rest d e h = tt
 
@@ -210,3 +244,28 @@ list_other seen form found d h = stops_said form (map seen found.items) d h.0 h.
 pub stops_here : {A : Type 0} (p : Parse A) (found : List A) (ts whole : List Token) → after_end_array ts ≡ None → p ts ≡ None
     → ((xs : List A) → Stops p xs ts → Stops p (found ++ xs) whole) → Stops p found whole
 stops_here p found ts whole going none h = subst (λ xs. Stops p xs whole) (append-nil found) (h [] (going, none))
+
+-- ---- the number at which it stops
+
+-- where it stops, f reads nothing, and before that it does
+pub stops_first : {A : Type 0} (f : Data → Option A) (xs : List A) (ds : List Data) → StopsAt f xs ds
+    → (x : Data) × (passing (λ e. is_some (f e)) ds ≡ length xs) × (length xs < length ds) × (slice_get ds (length xs) ≡ Some x)
+stops_first f xs [] s = absurd s
+stops_first f [] (d ∷ ds) s = (d, rw s refl, omega arith, refl)
+stops_first f (x ∷ xs) (d ∷ ds) s =
+    let more = stops_first f xs ds s.1 in
+    (more.0, rw (s.0, more.1) (omega arith), omega (arith, more.2), more.3)
+
+pub first_other : {X A : Type 0} (seen : X → A) (form : Form A) (found : Vec X Global) (n : ℕ) (d : Data) → n ≡ length found.items
+    → ReadsList seen form (Err (Behind found)) d → (x : Data) × IsFirstOther form.said d n x
+first_other seen form found n d counted h =
+    let at = stops_first form.said (map seen found.items) h.0 h.2 in
+    let same : length (map seen found.items) ≡ n = length-map found.items seen ∙ sym counted in (
+      at.0,
+      (
+        h.0,
+        h.1,
+        subst (λ k. IsFirstWithout (λ e. is_some (form.said e)) h.0 k at.0) same
+            (placed_first (λ e. is_some (form.said e)) h.0 (length (map seen found.items)) at.1 at.2, at.3),
+      ),
+    )

@@ -14,7 +14,7 @@ pub never_some : {A P : Type 0} (a : A) → None ≡ Some a → P
 never_some a e = absurd (cc)
 
 -- what is known of an answer that is there gives something else
-pub told_too : {A E P Q : Type 0} (r : Result (Option A) E) → IfOk r (λ o. IfSome o (λ a. P)) → (P → Q) → IfOk r (λ o. IfSome o (λ a. Q))
+pub told_too : {A E : Type 0} {P Q : A → Type 0} (r : Result (Option A) E) → IfOk r (λ o. IfSome o P) → ((a : A) → P a → Q a) → IfOk r (λ o. IfSome o Q)
 told_too (Err e) h f = h
 told_too (Ok None) h f = h
-told_too (Ok (Some a)) h f = f h
+told_too (Ok (Some a)) h f = f a h

@@ -32,7 +32,7 @@ mapped : {A B : Type 0} (f : A → B) (o : Option (A × List Token)) (b : B) (r 
 mapped f None b r e = never_some (b, r) e
 mapped f (Some p) b r e = let same = both_same (f p.0, p.1) (b, r) e in (p.0, ap (λ x. Some (p.0, x)) same.1, same.0)
 
-followed : {A B : Type 0} (f : A → Option B) (o : Option A) (b : B) → option_and_then f o ≡ Some b → (a : A) × (o ≡ Some a) × (f a ≡ Some b)
+pub followed : {A B : Type 0} (f : A → Option B) (o : Option A) (b : B) → option_and_then f o ≡ Some b → (a : A) × (o ≡ Some a) × (f a ≡ Some b)
 followed f None b e = absurd (cc)
 followed f (Some a) b e = (a, refl, e)
 

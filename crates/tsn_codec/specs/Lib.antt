@@ -6,3 +6,4 @@ pub mod Written
 pub mod PlanSays
 pub mod CertSays
 pub mod ArgumentSays
+pub mod Matter

@@ -49,6 +49,6 @@ StopsAt f (x ∷ xs) (d ∷ ds) = (f d ≡ Some x) × StopsAt f xs ds
 -- what was read of a value that is to be a list
 abbrev pub ReadsList : {X A : Type 0} → (X → A) → Form A → Result (Vec X Global) (Unlisted X) → Data → Type 0
 ReadsList seen form (Ok found) d = (list form).said d ≡ Some (map seen found.items)
-ReadsList seen form (Err NoArray) d = (list form).said d ≡ None
+ReadsList seen form (Err NoArray) d = elements d ≡ None
 ReadsList seen form (Err (Behind found)) d = (ds : List Data) × (elements d ≡ Some ds) × StopsAt form.said (map seen found.items) ds
 ReadsList seen form (Err Memory) d = Unit {0}

@@ -1,13 +1,14 @@
 //! Argument files, read and printed.
-ghost use Rattle.std.specs.Prelude.{◌≡◌, ◌≤◌, true, List, IfOk, IfSome, IsTrue, OnOk, None, Some, Ok, string_bytes};
+ghost use Rattle.std.specs.Prelude.{◌≡◌, ◌≤◌, true, List, IfOk, IfErr, IfSome, IsTrue, OnOk, None, Some, Ok, string_bytes};
 ghost use Rattle.json.specs.Token.{Token};
 ghost use Rattle.json.specs.Lex.{tokens};
 ghost use Rattle.serde_json.specs.Data.{depth};
 ghost use Rattle.serde_json.specs.Read.{max_depth};
 ghost use Rattle.serde_json.specs.View.{view};
 ghost use Rattle.tsn_cert.specs.Fault.{Gives};
+ghost use Rattle.tsn_codec.specs.Matter.{IsArgumentExcess, IsWhy, IsOfStep, IsStepsMisfit, IsArgumentMisfit};
 ghost use Rattle.tsn_codec.specs.Told.{Finds};
-ghost use Rattle.tsn_codec.specs.Written.{ArePlain, BeginsArgument, EndsWithTarget, IsNoCertificate};
+ghost use Rattle.tsn_codec.specs.Written.{ArePlain, BeginsArgument, EndsWithTarget, StopsSteps, IsNoCertificate};
 ghost use Rattle.tsn_cert.specs.Argument.{goal_of, steps_in, steps_form, argument_of, argument_value, argument_fits, argument_in, argument_text};
 ghost use Rattle.tsn_cert.specs.ArgumentLaws.{IsArgumentInGrammar};
 
@@ -54,6 +55,10 @@ impl File for Argument {
 
     ghost fits = { argument_fits };
 
+    ghost exceeds = { IsArgumentExcess };
+
+    ghost misfits = { IsArgumentMisfit };
+
     fn take(tokens: &mut Tokens<'_>) -> Result<Argument, Unread> {
         tokens.open_object()?;
         tokens.key("format")?;
@@ -79,11 +84,7 @@ impl File for Argument {
         argument_from(alloc, value)
     }
 
-    fn keeps_limits(&self) -> bool {
-        self.is_within_limits()
-    }
-
-    fn excess(&self) -> Excess {
+    fn excess(&self) -> Option<Excess> {
         limits::excess(self)
     }
 }
@@ -92,7 +93,8 @@ impl File for Argument {
 #[tactic(auto, using(crate::proofs::JsonLemmas::get_depth))]
 fn argument_from(alloc: Global, value: &Value) -> Result<Argument, Refused>
     requires { depth (view value.now) ≤ max_depth }
-    ensures { Finds (λ argument. argument) result (argument_of (view value.now)) }
+    ensures argument { Finds (λ argument. argument) result (argument_of (view value.now)) }
+    ensures told { IfErr result (IsWhy (IsArgumentMisfit (view value.now))) }
 {
     if !value.is_object() {
         return Err(Refused::WrongShape(Misfit::NoObject));
@@ -105,7 +107,7 @@ fn argument_from(alloc: Global, value: &Value) -> Result<Argument, Refused>
     let steps = document::member(value, Key::Steps)?;
     let target = document::member(value, Key::Target)?;
     if !document::is_object_of(value, 4) {
-        return Err(Refused::WrongShape(document::unknown_key(value, KEYS)?));
+        return Err(document::unknown_key(value, KEYS));
     }
     let goal = goal_from(goal)?;
     let target = document::whole_number_at(target, Key::Target)?;
@@ -118,7 +120,8 @@ fn argument_from(alloc: Global, value: &Value) -> Result<Argument, Refused>
 
 // The goal that the value is.
 fn goal_from(value: &Value) -> Result<Goal, Refused>
-    ensures { Finds (λ goal. goal) result (goal_of (view value.now)) }
+    ensures goal { Finds (λ goal. goal) result (goal_of (view value.now)) }
+    ensures told { IfErr result (λ refused. refused ≡ Refused.WrongShape Misfit.OtherGoal) }
 {
     match value.as_str() {
         Some(word) => goal::goal_named(word).ok_or(Refused::WrongShape(Misfit::OtherGoal)),
@@ -130,7 +133,8 @@ fn goal_from(value: &Value) -> Result<Goal, Refused>
 #[tactic(auto, using(crate::proofs::Elements::map_same))]
 fn steps_from(alloc: Global, value: &Value) -> Result<Steps, Refused>
     requires { depth (view value.now) ≤ max_depth }
-    ensures { Finds (λ steps. steps) result (steps_in (view value.now)) }
+    ensures steps { Finds (λ steps. steps) result (steps_in (view value.now)) }
+    ensures told { IfErr result (IsWhy (IsStepsMisfit (view value.now))) }
 {
     match list_in::<Step>(alloc, value) {
         Ok(steps) => Ok(Steps::of(steps)),
@@ -143,7 +147,9 @@ fn steps_from(alloc: Global, value: &Value) -> Result<Steps, Refused>
 }
 
 // What isn't of the form of the step of this number, in the value of all.
-fn misfit_in_value(alloc: Global, steps: &Value, number: usize) -> Result<Misfit, NoMemory> {
+fn misfit_in_value(alloc: Global, steps: &Value, number: usize) -> Result<Misfit, NoMemory>
+    ensures { IfOk result (IsOfStep number) }
+{
     match steps.get(number) {
         Some(step) => {
             let text = step.to_string(alloc)?;
@@ -157,7 +163,7 @@ fn misfit_in_value(alloc: Global, steps: &Value, number: usize) -> Result<Misfit
 /// it is something else, or it isn't known.
 pub(crate) fn misfit_of_written(alloc: Global, text: &str) -> Result<Option<Misfit>, NoMemory>
     requires { ArePlain (tokens text.now) }
-    ensures { IfOk result (λ misfit. IfSome misfit (λ _. IsNoCertificate text.now)) }
+    ensures { IfOk result (λ misfit. IfSome misfit (IsNoCertificate text.now)) }
 {
     let ends = ends_with_target(alloc, text)?;
     if ends {
@@ -168,7 +174,7 @@ pub(crate) fn misfit_of_written(alloc: Global, text: &str) -> Result<Option<Misf
 }
 
 fn misfit_of_steps(alloc: Global, text: &str) -> Result<Option<Misfit>, NoMemory>
-    ensures { IfOk result (λ misfit. IfSome misfit (λ _. (ts : List Token) × BeginsArgument (tokens text.now) ts × (steps_form.taken ts ≡ None))) }
+    ensures { IfOk result (λ misfit. IfSome misfit (StopsSteps (tokens text.now))) }
 {
     let mut scratch = Scratch::new(alloc);
     let mut tokens = Tokens::of(alloc, text, &mut scratch)?;

@@ -1,15 +1,18 @@
 //! Certificate files, read and printed.
-ghost use Rattle.std.specs.Prelude.{◌≡◌, ◌≤◌, true, List, IfOk, IfSome, OnOk, IsTrue, None, Ok, string_bytes};
+ghost use Rattle.std.specs.Prelude.{◌≡◌, ◌≤◌, true, not, position, List, IfOk, IfErr, IfSome, IsTrue, Ok, string_bytes};
 ghost use Rattle.json.specs.Token.{Token};
 ghost use Rattle.json.specs.Lex.{tokens};
 ghost use Rattle.serde_json.specs.Data.{depth};
 ghost use Rattle.serde_json.specs.Read.{max_depth};
 ghost use Rattle.serde_json.specs.View.{view};
 ghost use Rattle.tsn_cert.specs.Fault.{Gives};
+ghost use Rattle.tsn_codec.specs.Matter.{IsTreeExcess, IsWhy, IsNodesMisfit, IsTreeMisfit, is_of};
+ghost use Rattle.std.specs.List.{position_or_len};
+ghost use Rattle.tsn_cert.specs.Node.{tree_node};
 ghost use Rattle.tsn_codec.specs.Told.{Finds};
-ghost use Rattle.tsn_codec.specs.Written.{ArePlain, BeginsTree, EndsWithTarget, IsNoCertificate};
+ghost use Rattle.tsn_codec.specs.Written.{ArePlain, BeginsTree, EndsWithTarget, StopsNodes, IsNoCertificate};
 ghost use Rattle.tsn_codec.specs.Places.{nodes_in};
-ghost use Rattle.tsn_cert.specs.Cert.{are_of, format_of, nodes_form, cert_of, cert_fits, cert_in, cert_text};
+ghost use Rattle.tsn_cert.specs.Cert.{are_of, format_of, cert_of, cert_fits, cert_in, cert_text};
 
 mod limits;
 mod print;
@@ -51,6 +54,10 @@ impl File for Cert {
 
     ghost fits = { cert_fits };
 
+    ghost exceeds = { IsTreeExcess };
+
+    ghost misfits = { IsTreeMisfit };
+
     fn take(tokens: &mut Tokens<'_>) -> Result<Cert, Unread> {
         tokens.open_object()?;
         tokens.key("format")?;
@@ -74,11 +81,7 @@ impl File for Cert {
         cert_from(alloc, value)
     }
 
-    fn keeps_limits(&self) -> bool {
-        limits::fits(self)
-    }
-
-    fn excess(&self) -> Excess {
+    fn excess(&self) -> Option<Excess> {
         limits::excess(self)
     }
 }
@@ -87,7 +90,8 @@ impl File for Cert {
 #[tactic(auto, using(crate::proofs::JsonLemmas::get_depth))]
 fn cert_from(alloc: Global, value: &Value) -> Result<Cert, Refused>
     requires { depth (view value.now) ≤ max_depth }
-    ensures { Finds (λ cert. cert) result (cert_of (view value.now)) }
+    ensures cert { Finds (λ cert. cert) result (cert_of (view value.now)) }
+    ensures told { IfErr result (IsWhy (IsTreeMisfit (view value.now))) }
 {
     if !value.is_object() {
         return Err(Refused::WrongShape(Misfit::NoObject));
@@ -96,7 +100,7 @@ fn cert_from(alloc: Global, value: &Value) -> Result<Cert, Refused>
     let nodes = document::member(value, Key::Nodes)?;
     let target = document::member(value, Key::Target)?;
     if !document::is_object_of(value, 3) {
-        return Err(Refused::WrongShape(document::unknown_key(value, KEYS)?));
+        return Err(document::unknown_key(value, KEYS));
     }
     let target = document::whole_number_at(target, Key::Target)?;
     Ok(Cert {
@@ -108,7 +112,8 @@ fn cert_from(alloc: Global, value: &Value) -> Result<Cert, Refused>
 
 // The format that the value is.
 fn format_from(value: &Value) -> Result<Format, Refused>
-    ensures { Finds (λ format. format) result (format_of (view value.now)) }
+    ensures format { Finds (λ format. format) result (format_of (view value.now)) }
+    ensures told { IfErr result (λ refused. refused ≡ Refused.WrongShape Misfit.OtherFormat) }
 {
     let other = Refused::WrongShape(Misfit::OtherFormat);
     match value.as_u64() {
@@ -120,7 +125,8 @@ fn format_from(value: &Value) -> Result<Format, Refused>
 // The nodes of this format that the value is.
 fn nodes_from(alloc: Global, value: &Value, format: Format) -> Result<Nodes, Refused>
     requires { depth (view value.now) ≤ max_depth }
-    ensures { Finds (λ nodes. nodes) result (nodes_in format (view value.now)) }
+    ensures nodes { Finds (λ nodes. nodes) result (nodes_in format (view value.now)) }
+    ensures told { IfErr result (IsWhy (IsNodesMisfit format (view value.now))) }
 {
     match list_in::<Node>(alloc, value) {
         Ok(nodes) => {
@@ -136,19 +142,36 @@ fn nodes_from(alloc: Global, value: &Value, format: Format) -> Result<Nodes, Ref
     }
 }
 
+fn is_of(node: &Node, format: Format) -> bool
+    ensures { result ≡ is_of format (tree_node node.now) }
+{
+    match format {
+        Format::One => !node.is_tie(),
+        Format::Two => true,
+    }
+}
+
+fn first_other(nodes: &[Node], format: Format) -> Option<usize>
+    ensures { result ≡ position (λ node. not (is_of format (tree_node node))) nodes.now }
+{
+    nodes.iter().position(|node| !is_of(node, format))
+}
+
 // Which node is the first that isn't of the format, as a tie isn't of the first one: one of these, or else the one behind them.
-fn no_node(nodes: &[Node], format: Format) -> Misfit {
-    let tie = nodes
-        .iter()
-        .position(|node| format == Format::One && node.is_tie());
-    Misfit::NoNode(tie.unwrap_or(nodes.len()), format)
+fn no_node(nodes: &[Node], format: Format) -> Misfit
+    ensures { result ≡ Misfit.NoNode (position_or_len (λ node. not (is_of format (tree_node node))) nodes.now) format }
+{
+    match first_other(nodes, format) {
+        Some(number) => Misfit::NoNode(number, format),
+        None => Misfit::NoNode(nodes.len(), format),
+    }
 }
 
 /// What isn't of the form of a file whose keys stand in the order in which they are written, where that is one of its nodes; None where
 /// it is something else, or it isn't known.
 pub(crate) fn misfit_of_written(alloc: Global, text: &str) -> Result<Option<Misfit>, NoMemory>
     requires { ArePlain (tokens text.now) }
-    ensures { IfOk result (λ misfit. IfSome misfit (λ _. IsNoCertificate text.now)) }
+    ensures { IfOk result (λ misfit. IfSome misfit (IsNoCertificate text.now)) }
 {
     let ends = ends_with_target(alloc, text)?;
     if ends {
@@ -159,7 +182,7 @@ pub(crate) fn misfit_of_written(alloc: Global, text: &str) -> Result<Option<Misf
 }
 
 fn misfit_of_nodes(alloc: Global, text: &str) -> Result<Option<Misfit>, NoMemory>
-    ensures { IfOk result (λ misfit. IfSome misfit (λ _. (ts : List Token) × BeginsTree (tokens text.now) ts × (nodes_form.taken ts ≡ None))) }
+    ensures { IfOk result (λ misfit. IfSome misfit (StopsNodes (tokens text.now))) }
 {
     let mut scratch = Scratch::new(alloc);
     let mut tokens = Tokens::of(alloc, text, &mut scratch)?;
@@ -174,7 +197,7 @@ fn misfit_of_nodes(alloc: Global, text: &str) -> Result<Option<Misfit>, NoMemory
 }
 
 fn ends_with_target(alloc: Global, text: &str) -> Result<bool, NoMemory>
-    ensures { IfOk result (λ ends. ends ≡ true → (ts : List Token) × BeginsTree (tokens text.now) ts × EndsWithTarget ts) }
+    ensures { IfOk result (λ ends. ends ≡ true → (format : Format) × (ts : List Token) × BeginsTree format (tokens text.now) ts × EndsWithTarget ts) }
 {
     let mut scratch = Scratch::new(alloc);
     let mut tokens = Tokens::of(alloc, text, &mut scratch)?;
@@ -186,7 +209,7 @@ fn ends_with_target(alloc: Global, text: &str) -> Result<bool, NoMemory>
 
 // Passes what stands before the nodes.
 fn begin(tokens: &mut Tokens<'_>) -> Result<Format, Unread>
-    ensures { OnOk result (BeginsTree tokens.old tokens.new) }
+    ensures { IfOk result (λ format. BeginsTree format tokens.old tokens.new) }
 {
     tokens.open_object()?;
     tokens.key("format")?;

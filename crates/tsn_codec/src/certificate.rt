@@ -1,11 +1,13 @@
 //! Certificate files, read and printed.
-ghost use Rattle.std.specs.Prelude.{◌≡◌, ◌≤◌, true, IfOk, IfSome, IsTrue, Ok, Err, string_bytes};
+ghost use Rattle.std.specs.Prelude.{◌≡◌, ◌≤◌, true, IfOk, IfErr, IfSome, IsTrue, Ok, Err, string_bytes};
 ghost use Rattle.json.specs.Lex.{tokens};
 ghost use Rattle.serde_json.specs.Data.{depth};
 ghost use Rattle.serde_json.specs.Read.{max_depth};
 ghost use Rattle.serde_json.specs.View.{view};
 ghost use Rattle.tsn_cert.specs.Argument.{argument_of};
 ghost use Rattle.tsn_cert.specs.Fault.{Gives};
+ghost use Rattle.tsn_codec.specs.Matter.{IsWhy, IsOfArgument, IsTreeMisfit, IsMisfit, IsToldOfCertificate};
+ghost use Rattle.std.specs.Bool.{MatchBool};
 ghost use Rattle.tsn_codec.specs.Told.{Tells, Finds};
 ghost use Rattle.tsn_codec.specs.Written.{ArePlain};
 ghost use Rattle.tsn_cert.specs.Certificate.{certificate_fits, certificate_in, certificate_text, is_of_format};
@@ -38,7 +40,8 @@ pub fn certificate_from_json(alloc: Global, bytes: &[u8]) -> Result<Certificate,
 
 /// Reads a certificate file, or says what is the matter with it.
 pub fn certificate_or_refuse(alloc: Global, bytes: &[u8]) -> Result<Certificate, Refused>
-    ensures { Tells (λ certificate. certificate) result (certificate_in bytes.now) }
+    ensures certificate { Tells (λ certificate. certificate) result (certificate_in bytes.now) }
+    ensures told { IfErr result (IsToldOfCertificate bytes.now) }
 {
     // A file in written form is read once, whatever its kind.
     if bytes.starts_with(ARGUMENT_BEGIN) {
@@ -58,7 +61,8 @@ pub fn certificate_or_refuse(alloc: Global, bytes: &[u8]) -> Result<Certificate,
 
 // The same, of a file that is none in written form.
 fn from_other(alloc: Global, bytes: &[u8]) -> Result<Certificate, Refused>
-    ensures { Tells (λ certificate. certificate) result (certificate_in bytes.now) }
+    ensures certificate { Tells (λ certificate. certificate) result (certificate_in bytes.now) }
+    ensures told { IfErr result (IsToldOfCertificate bytes.now) }
 {
     // Where a node or a step is of another form, no value of the whole file is made.
     match misfit_of_written(alloc, bytes)? {
@@ -69,7 +73,8 @@ fn from_other(alloc: Global, bytes: &[u8]) -> Result<Certificate, Refused>
 
 // The node or the step that isn't of the form, where the keys stand in the order in which they are written and nothing else is amiss.
 fn misfit_of_written(alloc: Global, bytes: &[u8]) -> Result<Option<Misfit>, NoMemory>
-    ensures { IfOk result (λ misfit. IfSome misfit (λ _. certificate_in bytes.now ≡ Err FileFault.WrongShape)) }
+    ensures { IfOk result (λ misfit. IfSome misfit (λ m. (certificate_in bytes.now ≡ Err FileFault.WrongShape)
+        × IsToldOfCertificate bytes.now (Refused.WrongShape m))) }
 {
     let Ok(text) = std::str::from_utf8(bytes) else {
         return Ok(None);
@@ -94,7 +99,8 @@ fn has_plain_numbers(alloc: Global, text: &str) -> Result<bool, NoMemory>
 
 // The same, of a file whose keys stand in any order: a tree, or else an argument.
 fn from_any(alloc: Global, bytes: &[u8]) -> Result<Certificate, Refused>
-    ensures { Tells (λ certificate. certificate) result (certificate_in bytes.now) }
+    ensures certificate { Tells (λ certificate. certificate) result (certificate_in bytes.now) }
+    ensures told { IfErr result (IsToldOfCertificate bytes.now) }
 {
     let value = document::value_from(alloc, bytes)?;
     match Cert::in_value(alloc, &value) {
@@ -103,23 +109,28 @@ fn from_any(alloc: Global, bytes: &[u8]) -> Result<Certificate, Refused>
             let argument = argument_or(alloc, &value, misfit)?;
             Ok(Certificate::Argument(file::limited(argument)?))
         }
-        Err(refused) => Err(refused),
+        Err(_) => Err(Refused::Memory),
     }
 }
 
 // The argument that the value is. Where it doesn't tell that it is one, what is the matter with it as a tree is said.
 fn argument_or(alloc: Global, value: &Value, misfit: Misfit) -> Result<Argument, Refused>
     requires { depth (view value.now) ≤ max_depth }
-    ensures { Finds (λ argument. argument) result (argument_of (view value.now)) }
+    ensures argument { Finds (λ argument. argument) result (argument_of (view value.now)) }
+    ensures told { IsTreeMisfit (view value.now) misfit → IfErr result (IsWhy (IsMisfit (view value.now))) }
 {
-    match Argument::in_value(alloc, value) {
-        Err(Refused::WrongShape(_)) if !is_argument(value) => Err(Refused::WrongShape(misfit)),
-        found => found,
+    if is_argument(value) {
+        drop(misfit);
+        Argument::in_value(alloc, value)
+    } else {
+        Err(Refused::WrongShape(misfit))
     }
 }
 
 // Whether the value tells that it is an argument.
-fn is_argument(value: &Value) -> bool {
+fn is_argument(value: &Value) -> bool
+    ensures { MatchBool result (IsOfArgument (view value.now)) (IsOfArgument (view value.now) → ⊥) }
+{
     match value.get("format") {
         Some(format) => format.as_u64() == Some(ARGUMENT_FORMAT),
         None => false,

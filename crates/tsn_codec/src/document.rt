@@ -1,16 +1,20 @@
 //! The parts that the values of files are read from and made of.
-ghost use Rattle.std.specs.Prelude.{◌≡◌, ◌≤◌, map, false, Some, None, IfOk, MatchResult, IsOkAnd, string_bytes, [], ◌∷◌, ◌++◌};
+ghost use Rattle.std.specs.Prelude.{◌≡◌, ◌≤◌, map, not, find, option_map, IfErr, false, Some, None, IfOk, MatchResult, IsOkAnd, string_bytes, [], ◌∷◌, ◌++◌};
 ghost use Rattle.serde_json.specs.Data.{depth, string};
 ghost use Rattle.serde_json.specs.Find.{get};
 ghost use Rattle.serde_json.specs.Read.{max_depth};
 ghost use Rattle.serde_json.specs.View.{view};
 ghost use Rattle.serde_json.specs.Written.{has_float};
-ghost use Rattle.tsn_cert.specs.Json.{value_of, whole_number, is_object_of, all_within, number_value, array_value, file_text};
+ghost use Rattle.tsn_cert.specs.Json.{value_of, whole_number, is_object_of, number_value, array_value, file_text};
 ghost use Rattle.tsn_cert.specs.Fault.{named};
 ghost use Rattle.tsn_codec.specs.Told.{key_name, Tells, Finds};
+ghost use Rattle.tsn_codec.specs.Matter.{IsWhy, IsUnknown, other_name};
+ghost use Rattle.std.specs.List.{list_any};
+ghost use Rattle.std.specs.Str.{bytes_eq};
+ghost use Rattle.std.specs.BTreeMap.{keys as keys_of};
 
 use crate::refused::{Key, Misfit, Refused};
-use serde_json::{ToValue, Value};
+use serde_json::{Map, ToValue, Value};
 use std::alloc::{AllocError, Global};
 use tsn_cert::FileFault;
 use tsn_model::NoMemory;
@@ -43,24 +47,49 @@ pub fn member<'a>(value: &'a Value, key: Key) -> Result<&'a Value, Refused>
 
 /// The number that stands at a key.
 pub fn whole_number_at(value: &Value, key: Key) -> Result<u64, Refused>
-    ensures { Finds (λ n. n) result (whole_number (view value.now)) }
+    ensures told { IfErr result (λ refused. refused ≡ Refused.WrongShape (Misfit.NoNumber key)) }
+    ensures number { Finds (λ n. n) result (whole_number (view value.now)) }
 {
     value
         .as_u64()
         .ok_or(Refused::WrongShape(Misfit::NoNumber(key)))
 }
 
-/// The first of the keys of an object that is none of these.
-pub fn unknown_key(value: &Value, keys: &[Key]) -> Result<Misfit, NoMemory> {
-    let Some(members) = value.as_object() else {
-        return Ok(Misfit::NoObject);
-    };
-    for name in members.keys() {
-        if !keys.iter().any(|key| key.name() == name.as_str()) {
-            return Ok(Misfit::Unknown(name.clone()?));
-        }
+// The first of an object's keys that is none of these.
+fn other_name<'a>(value: &'a Value, keys: &[Key]) -> Option<&'a String>
+    ensures { option_map (λ name. string_bytes name.now) result ≡ other_name keys.now (view value.now) }
+{
+    match value.as_object() {
+        Some(members) => key_outside(members, keys),
+        None => None,
     }
-    Ok(Misfit::NoObject)
+}
+
+fn key_outside<'a>(members: &'a Map<String, Value>, keys: &[Key]) -> Option<&'a String>
+    ensures { option_map (λ name. name.now) result
+        ≡ find (λ name. not (list_any (λ k. bytes_eq (key_name k) (string_bytes name)) keys.now)) (keys_of members.now) }
+{
+    members.keys().find(|name| !is_among(name.as_str(), keys))
+}
+
+fn is_among(name: &str, keys: &[Key]) -> bool
+    ensures { result ≡ list_any (λ k. bytes_eq (key_name k) name.now) keys.now }
+{
+    keys.iter().any(|key| key.name() == name)
+}
+
+/// Why an object that has all of these keys doesn't have them alone.
+pub fn unknown_key(value: &Value, keys: &[Key]) -> Refused
+    ensures { IsWhy (IsUnknown keys.now (view value.now)) result }
+{
+    match other_name(value, keys) {
+        Some(name) => match name.clone() {
+            Ok(name) => Refused::WrongShape(Misfit::Unknown(name)),
+            Err(_) => Refused::Memory,
+        },
+        // Never met, which isn't shown: an object has no key twice, so that one of another count of members has another key.
+        None => Refused::Memory,
+    }
 }
 
 /// Whether the value is an object of so many members.
@@ -71,13 +100,6 @@ pub fn is_object_of(value: &Value, count: usize) -> bool
         Some(members) => members.len() == count,
         None => false,
     }
-}
-
-/// Whether no number is above the limit.
-pub fn all_within(limit: u64, numbers: &[u64]) -> bool
-    ensures { result ≡ all_within limit numbers.now }
-{
-    numbers.iter().all(|number| *number <= limit)
 }
 
 /// An array of indices.

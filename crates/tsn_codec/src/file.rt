@@ -1,5 +1,5 @@
 //! Whole files: read from tokens where their keys stand in the order in which they are written, and else by their value.
-ghost use Rattle.std.specs.Prelude.{◌≡◌, ◌≤◌, Bool, Option, Some, IfOk, OnOk, true, option_and_then};
+ghost use Rattle.std.specs.Prelude.{◌≡◌, ◌≤◌, Bool, Option, Some, IfOk, IfErr, OnOk, true, option_and_then};
 ghost use Rattle.serde_json.specs.Data.{Data, depth};
 ghost use Rattle.serde_json.specs.Read.{read, max_depth};
 ghost use Rattle.serde_json.specs.View.{view};
@@ -7,6 +7,9 @@ ghost use Rattle.tsn_cert.specs.Json.{value_of};
 ghost use Rattle.tsn_cert.specs.Spelled.{Spells};
 ghost use Rattle.tsn_cert.specs.Fault.{shaped, answer};
 ghost use Rattle.tsn_codec.specs.Told.{Tells, Finds};
+ghost use Rattle.tsn_codec.specs.Matter.{FindsExcess, IsWhy};
+ghost use Rattle.tsn_codec.specs.declared.refused.Misfit.{Misfit};
+ghost use Rattle.tsn_codec.specs.declared.refused.Excess.{Excess};
 ghost use Rattle.tsn_codec.specs.Written.{PassesTarget, EndsWithTarget};
 
 use crate::document;
@@ -33,14 +36,16 @@ pub trait File: Sized + Drop {
     /// The one that a value is.
     fn in_value(alloc: Global, value: &Value) -> Result<Self, Refused>
         requires { depth (view value.now) ≤ max_depth }
-        ensures { Finds seen result (grammar (view value.now)) };
+        ensures file { Finds seen result (grammar (view value.now)) }
+        ensures told { IfErr result (IsWhy (misfits (view value.now))) };
 
-    /// Whether each number is within its limit.
-    fn keeps_limits(&self) -> bool
-        ensures { result ≡ fits (seen self.now) };
+    ghost exceeds: { Said → Excess → Type 0 };
 
-    /// The first number above its limit, where one is.
-    fn excess(&self) -> Excess;
+    ghost misfits: { Data → Misfit → Type 0 };
+
+    /// The first number above its limit; none where each is within.
+    fn excess(&self) -> Option<Excess>
+        ensures { FindsExcess (fits (seen self.now)) (exceeds (seen self.now)) result };
 }
 
 fn whole<F: File>(alloc: Global, text: &str) -> Result<F, Unread>
@@ -87,12 +92,15 @@ pub fn from_bytes<F: File>(alloc: Global, bytes: &[u8]) -> Result<F, Refused>
 
 /// What was read, where each of its numbers is within its limit.
 pub fn limited<F: File>(file: F) -> Result<F, Refused>
-    ensures { Tells F.seen result (shaped F.fits (Some (F.seen file))) }
+    ensures limits { Tells F.seen result (shaped F.fits (Some (F.seen file))) }
+    ensures told { IfErr result (λ refused. (e : Excess) × (refused ≡ Refused.NumberTooLarge e) × F.exceeds (F.seen file) e) }
 {
-    if file.keeps_limits() {
-        Ok(file)
-    } else {
-        Err(Refused::NumberTooLarge(file.excess()))
+    match file.excess() {
+        None => Ok(file),
+        Some(excess) => {
+            drop(file);
+            Err(Refused::NumberTooLarge(excess))
+        }
     }
 }
 

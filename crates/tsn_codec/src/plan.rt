@@ -1,12 +1,13 @@
 //! Plan files, read and printed.
-ghost use Rattle.std.specs.Prelude.{◌≡◌, ◌≤◌, IfOk, string_bytes, IsTrue, Ok};
+ghost use Rattle.std.specs.Prelude.{◌≡◌, ◌≤◌, IfOk, IfErr, string_bytes, IsTrue, Ok, position, not, nat_le};
 ghost use Rattle.serde_json.specs.Data.{depth};
 ghost use Rattle.serde_json.specs.Read.{max_depth};
 ghost use Rattle.serde_json.specs.View.{view};
 ghost use Rattle.tsn_cert.specs.Fault.{Gives};
 ghost use Rattle.tsn_codec.specs.Told.{Tells, Finds};
 ghost use Rattle.tsn_cert.specs.Json.{numbers};
-ghost use Rattle.tsn_cert.specs.Plan.{plan_of, plan_of_values, plan_fits, plan_in, plan_value, plan_text};
+ghost use Rattle.tsn_cert.specs.Plan.{plan_of, plan_of_values, plan_fits, plan_in, plan_value, plan_text, max_time};
+ghost use Rattle.tsn_codec.specs.Matter.{FindsExcess, IsPlanExcess, IsWhy, IsOffsetsMisfit, IsValuesMisfit, IsPlanMisfit, IsToldOfPlan};
 
 use crate::document;
 use crate::list::{Element, Unlisted, array_of, list_in};
@@ -58,14 +59,14 @@ pub fn plan_from_json(alloc: Global, bytes: &[u8]) -> Result<Plan, FileFault>
 
 /// Reads a plan file, or says what is the matter with it.
 pub fn plan_or_refuse(alloc: Global, bytes: &[u8]) -> Result<Plan, Refused>
-    ensures { Tells (λ plan. plan) result (plan_in bytes.now) }
+    ensures plan { Tells (λ plan. plan) result (plan_in bytes.now) }
+    ensures told { IfErr result (IsToldOfPlan bytes.now) }
 {
     let value = document::value_from(alloc, bytes)?;
     let plan = plan_from(alloc, &value)?;
-    if fits(&plan) {
-        Ok(plan)
-    } else {
-        Err(Refused::NumberTooLarge(excess(&plan)))
+    match excess(&plan) {
+        None => Ok(plan),
+        Some(excess) => Err(Refused::NumberTooLarge(excess)),
     }
 }
 
@@ -98,7 +99,8 @@ fn value_of(alloc: Global, plan: &Plan) -> Result<Value, AllocError>
 #[tactic(auto, using(crate::proofs::JsonLemmas::get_depth))]
 fn plan_from(alloc: Global, value: &Value) -> Result<Plan, Refused>
     requires { depth (view value.now) ≤ max_depth }
-    ensures { Finds (λ plan. plan) result (plan_of (view value.now)) }
+    ensures plan { Finds (λ plan. plan) result (plan_of (view value.now)) }
+    ensures told { IfErr result (IsWhy (IsPlanMisfit (view value.now))) }
 {
     if !value.is_object() {
         return Err(Refused::WrongShape(Misfit::NoObject));
@@ -106,7 +108,7 @@ fn plan_from(alloc: Global, value: &Value) -> Result<Plan, Refused>
     let flowspan = document::member(value, Key::Flowspan)?;
     let offsets = document::member(value, Key::Offsets)?;
     if !document::is_object_of(value, 2) {
-        return Err(Refused::WrongShape(document::unknown_key(value, KEYS)?));
+        return Err(document::unknown_key(value, KEYS));
     }
     plan_from_values(alloc, flowspan, offsets)
 }
@@ -114,7 +116,8 @@ fn plan_from(alloc: Global, value: &Value) -> Result<Plan, Refused>
 #[tactic(auto, using(crate::proofs::Elements::map_same))]
 fn plan_from_values(alloc: Global, flowspan: &Value, offsets: &Value) -> Result<Plan, Refused>
     requires { depth (view offsets.now) ≤ max_depth }
-    ensures { Finds (λ plan. plan) result (plan_of_values (view flowspan.now) (view offsets.now)) }
+    ensures plan { Finds (λ plan. plan) result (plan_of_values (view flowspan.now) (view offsets.now)) }
+    ensures told { IfErr result (IsWhy (IsValuesMisfit (view flowspan.now) (view offsets.now))) }
 {
     match (flowspan.is_null(), offsets.is_null()) {
         (true, true) => Ok(Plan::None),
@@ -130,7 +133,8 @@ fn plan_from_values(alloc: Global, flowspan: &Value, offsets: &Value) -> Result<
 #[tactic(auto, using(crate::proofs::Elements::map_same))]
 fn offsets_from(alloc: Global, value: &Value) -> Result<Offsets, Refused>
     requires { depth (view value.now) ≤ max_depth }
-    ensures { Finds (λ offsets. offsets) result (numbers (view value.now)) }
+    ensures offsets { Finds (λ offsets. offsets) result (numbers (view value.now)) }
+    ensures told { IfErr result (IsWhy (IsOffsetsMisfit (view value.now))) }
 {
     match list_in::<u64>(alloc, value) {
         Ok(offsets) => Ok(Offsets::of(offsets)),
@@ -142,27 +146,28 @@ fn offsets_from(alloc: Global, value: &Value) -> Result<Offsets, Refused>
     }
 }
 
-// Whether each number is within its limit.
-fn fits(plan: &Plan) -> bool
-    ensures { result ≡ plan_fits plan.now }
+// The first number above its limit; none where each is within.
+fn excess(plan: &Plan) -> Option<Excess>
+    ensures { FindsExcess (plan_fits plan.now) (IsPlanExcess plan.now) result }
 {
     match plan {
         Plan::Schedule { flowspan, offsets } => {
-            *flowspan <= MAX_TIME && document::all_within(MAX_TIME, offsets.list())
+            if *flowspan > MAX_TIME {
+                return Some(Excess::At(Key::Flowspan, *flowspan));
+            }
+            let offsets = offsets.list();
+            match first_late(offsets) {
+                Some(number) => Some(Excess::OfOffset(number, offsets[number])),
+                None => None,
+            }
         }
-        Plan::None => true,
+        Plan::None => None,
     }
 }
 
-// The first number above its limit, where one is.
-fn excess(plan: &Plan) -> Excess {
-    let Plan::Schedule { flowspan, offsets } = plan else {
-        return Excess::At(Key::Flowspan, 0);
-    };
-    for (number, offset) in offsets.list().iter().enumerate() {
-        if *flowspan <= MAX_TIME && *offset > MAX_TIME {
-            return Excess::OfOffset(number, *offset);
-        }
-    }
-    Excess::At(Key::Flowspan, *flowspan)
+// The number of the first offset above the limit.
+fn first_late(offsets: &[u64]) -> Option<usize>
+    ensures { result ≡ position (λ offset. not (nat_le offset max_time)) offsets.now }
+{
+    offsets.iter().position(|offset| *offset > MAX_TIME)
 }

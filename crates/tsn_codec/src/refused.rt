@@ -44,7 +44,7 @@ pub enum Part {
 }
 
 /// What isn't of the form of the file. Where more than one thing isn't, the first one in this order is told; of nodes, steps and offsets
-/// the first one in the file.
+/// the first one in the file. That it is so is proved, but for which part of a step it is.
 #[derive(Drop)]
 pub enum Misfit {
     /// The value is no object.

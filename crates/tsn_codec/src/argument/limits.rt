@@ -1,38 +1,72 @@
 //! Which number of an argument is above its limit in a file.
+ghost use Rattle.std.specs.Prelude.{◌≡◌, true, false, MatchOption, not, position};
+ghost use Rattle.tsn_cert.specs.Fact.{fact_fits};
+ghost use Rattle.tsn_cert.specs.Move.{move_fits};
+ghost use Rattle.tsn_cert.specs.Argument.{step_fits, argument_fits};
+ghost use Rattle.tsn_codec.specs.Matter.{fact_lags, FindsExcess, IsStepExcess, IsArgumentExcess};
 
 use crate::argument::motion;
 use crate::refused::{Excess, Key, Part};
 use tsn_cert::plan::MAX_TIME;
-use tsn_cert::{Argument, Fact, Limited, Step};
+use tsn_cert::{Argument, Fact, Limited, Move, Step};
 
-// Whether a lag stands in the fact.
-fn has_fact_lag(fact: Fact) -> bool {
+// Whether the fact has a lag other than 0.
+fn has_fact_lag(fact: Fact) -> bool
+    ensures { result ≡ fact_lags fact }
+{
     matches!(fact, Fact::Order(order) if order.lag != 0)
 }
 
-// The first part of a step with a number above its limit, and whether a lag stands in it.
-fn excess_of_step(step: &Step) -> Option<(Part, bool)> {
-    for (number, fact) in step.clause.list().iter().enumerate() {
-        if !fact.fits() {
-            return Some((Part::Fact(number), has_fact_lag(*fact)));
-        }
-    }
-    for (number, it) in step.moves.list().iter().enumerate() {
-        if !it.fits() {
-            return Some((Part::Move(number), motion::has_lag(it)));
-        }
-    }
-    None
+// The number of the first fact with a number above its limit.
+fn first_large_fact(facts: &[Fact]) -> Option<usize>
+    ensures { result ≡ position (λ it. not (fact_fits it)) facts.now }
+{
+    facts.iter().position(|fact| !fact.fits())
 }
 
-/// The first number above its limit, where one is.
-pub(super) fn excess(argument: &Argument) -> Excess {
-    for (step, it) in argument.steps.list().iter().enumerate() {
-        if argument.target <= MAX_TIME {
-            if let Some((part, lags)) = excess_of_step(it) {
-                return Excess::OfPart { step, part, lags };
-            }
-        }
+// The number of the first move with a number above its limit.
+fn first_large_move(moves: &[Move]) -> Option<usize>
+    ensures { result ≡ position (λ it. not (move_fits it)) moves.now }
+{
+    moves.iter().position(|it| !it.fits())
+}
+
+// The number of the first step with a number above its limit.
+fn first_large_step(steps: &[Step]) -> Option<usize>
+    ensures { result ≡ position (λ step. not (step_fits step)) steps.now }
+{
+    steps.iter().position(|step| !step.fits())
+}
+
+// The first part of a step with a number above its limit, and whether it has a lag other than 0; none where each is within.
+fn excess_of_step(step: &Step) -> Option<(Part, bool)>
+    ensures { MatchOption result (step_fits step.now ≡ true) (λ e. (step_fits step.now ≡ false) × IsStepExcess step.now e.0 e.1) }
+{
+    let facts = step.clause.list();
+    match first_large_fact(facts) {
+        Some(number) => return Some((Part::Fact(number), has_fact_lag(facts[number]))),
+        None => {}
     }
-    Excess::At(Key::Target, argument.target)
+    let moves = step.moves.list();
+    match first_large_move(moves) {
+        Some(number) => Some((Part::Move(number), motion::has_lag(&moves[number]))),
+        None => None,
+    }
+}
+
+/// The first number above its limit; none where each is within.
+pub(super) fn excess(argument: &Argument) -> Option<Excess>
+    ensures { FindsExcess (argument_fits argument.now) (IsArgumentExcess argument.now) result }
+{
+    if argument.target > MAX_TIME {
+        return Some(Excess::At(Key::Target, argument.target));
+    }
+    let steps = argument.steps.list();
+    match first_large_step(steps) {
+        Some(step) => match excess_of_step(&steps[step]) {
+            Some((part, lags)) => Some(Excess::OfPart { step, part, lags }),
+            None => None,
+        },
+        None => None,
+    }
 }

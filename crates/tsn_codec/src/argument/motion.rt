@@ -1,11 +1,13 @@
 //! Moves of an argument, and their frames, read and printed.
 ghost use Rattle.std.specs.Prelude.{◌≡◌, IfOk, OnOk, Some};
+ghost use Rattle.std.specs.List.{list_any};
 ghost use Rattle.serde_json.specs.View.{view};
 ghost use Rattle.tsn_cert.specs.declared.motion.Move.TheVariants as form;
 ghost use Rattle.tsn_cert.specs.Form.{row_of};
 ghost use Rattle.tsn_cert.specs.Json.{worded_value};
 ghost use Rattle.tsn_cert.specs.Move.{later_row, frame_form, frame_value, frames_form, frames_of, frames_value, placing_row, placing_parts, placing_items, pack_row, round_row, follow_row, motions, move_form, move_in, move_value};
 ghost use Rattle.tsn_codec.specs.ArgumentSays.{frame_element, move_element};
+ghost use Rattle.tsn_codec.specs.Matter.{order_lags, move_lags};
 ghost use Rattle.tsn_codec.specs.Takes.{Takes};
 
 use crate::argument::parts::{last_number, order, order_behind, orders, orders_value};
@@ -236,11 +238,19 @@ impl Element for Move {
     ghost says = { move_element };
 }
 
-/// Whether a lag stands in the move.
-pub(super) fn has_lag(motion: &Move) -> bool {
+fn have_lag(orders: &[Order]) -> bool
+    ensures { result ≡ list_any order_lags orders.now }
+{
+    orders.iter().any(|order| order.lag != 0)
+}
+
+/// Whether the move has a lag other than 0.
+pub(super) fn has_lag(motion: &Move) -> bool
+    ensures { result ≡ move_lags motion.now }
+{
     match motion {
         Move::Go(order) | Move::Turn(order) => order.lag != 0,
-        Move::Round(orders) => orders.list().iter().any(|order| order.lag != 0),
+        Move::Round(orders) => have_lag(orders.list()),
         Move::Follow(known, weaker) => known.lag != 0 || weaker.lag != 0,
         _ => false,
     }

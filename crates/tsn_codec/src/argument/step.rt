@@ -1,4 +1,6 @@
 //! Steps of an argument, read and printed; which part of one isn't of the form.
+ghost use Rattle.std.specs.Prelude.{IfOk};
+ghost use Rattle.tsn_codec.specs.Matter.{IsOfStep};
 ghost use Rattle.tsn_cert.specs.Argument.{step_form, step_value, steps_form};
 ghost use Rattle.tsn_codec.specs.ArgumentSays.{step_element};
 ghost use Rattle.tsn_codec.specs.Takes.{Takes};
@@ -62,7 +64,9 @@ pub(super) fn misfit(
     text: &str,
     number: usize,
     alone: bool,
-) -> Result<Misfit, NoMemory> {
+) -> Result<Misfit, NoMemory>
+    ensures { IfOk result (IsOfStep number) }
+{
     let none = Misfit::NoStep(number);
     let behind = if alone { None } else { Some(number) };
     if !is_pair(alloc, text, behind)? {

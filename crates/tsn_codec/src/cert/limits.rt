@@ -1,11 +1,12 @@
-//! Whether the numbers of a certificate are within the limits of its file.
-ghost use Rattle.std.specs.Prelude.{◌≡◌};
+//! Which number of a tree is above its limit in a file.
+ghost use Rattle.std.specs.Prelude.{◌≡◌, position, not};
 ghost use Rattle.std.specs.List.{list_all};
 ghost use Rattle.tsn_model.specs.Certificate.{load};
 ghost use Rattle.tsn_cert.specs.Json.{all_within};
 ghost use Rattle.tsn_cert.specs.Leaf.{bound_leaf, leaf_of};
 ghost use Rattle.tsn_cert.specs.Node.{tree_node};
 ghost use Rattle.tsn_cert.specs.Cert.{triple_fits, entry_fits, leaf_fits, node_fits, max_number, cert_fits};
+ghost use Rattle.tsn_codec.specs.Matter.{node_lags, FindsExcess, IsTreeExcess};
 
 use crate::refused::{Excess, Key};
 use tsn_cert::chain::{Chain, MAX_NUMBER};
@@ -82,26 +83,33 @@ fn node_fits(node: &Node) -> bool
     }
 }
 
-fn nodes_fit(nodes: &[Node]) -> bool
-    ensures { result ≡ list_all (λ node. node_fits (tree_node node)) nodes.now }
+// Whether the node has a lag other than 0.
+fn has_lag(node: &Node) -> bool
+    ensures { result ≡ node_lags (tree_node node.now) }
 {
-    nodes.iter().all(|node| node_fits(node))
+    matches!(node, Node::Branch(triple) if triple.lag != 0)
 }
 
-/// Whether each number is within its limit.
-pub(super) fn fits(cert: &Cert) -> bool
-    ensures { result ≡ cert_fits cert.now }
+// The number of the first node with a number above its limit.
+fn first_large(nodes: &[Node]) -> Option<usize>
+    ensures { result ≡ position (λ node. not (node_fits (tree_node node))) nodes.now }
 {
-    cert.target <= MAX_TIME && nodes_fit(cert.nodes.list())
+    nodes.iter().position(|node| !node_fits(node))
 }
 
-/// The first number above its limit, where one is.
-pub(super) fn excess(cert: &Cert) -> Excess {
-    for (number, node) in cert.nodes.list().iter().enumerate() {
-        if cert.target <= MAX_TIME && !node_fits(node) {
-            let lags = matches!(node, Node::Branch(triple) if triple.lag != 0);
-            return Excess::OfNode { number, lags };
-        }
+/// The first number above its limit; none where each is within.
+pub(super) fn excess(cert: &Cert) -> Option<Excess>
+    ensures { FindsExcess (cert_fits cert.now) (IsTreeExcess cert.now) result }
+{
+    if cert.target > MAX_TIME {
+        return Some(Excess::At(Key::Target, cert.target));
     }
-    Excess::At(Key::Target, cert.target)
+    let nodes = cert.nodes.list();
+    match first_large(nodes) {
+        Some(number) => {
+            let lags = has_lag(&nodes[number]);
+            Some(Excess::OfNode { number, lags })
+        }
+        None => None,
+    }
 }

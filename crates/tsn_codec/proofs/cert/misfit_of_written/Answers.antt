@@ -7,4 +7,4 @@ pub returns-then-ends : goal.returns-then-ends
 returns-then-ends c =
     let ends : c.in_ok-ends.ends ≡ true = grind arith in
     let e = c.in_ok-ends.ensures ends in
-    told_too _ c.misfit_of_nodes.ensures (λ h. tree_refused _ _ _ c.requires h.1 h.2 e.1 e.2)
+    told_too _ c.misfit_of_nodes.ensures (λ m h. tree_refused _ m c.requires h e)

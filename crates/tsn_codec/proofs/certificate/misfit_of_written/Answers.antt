@@ -11,11 +11,11 @@ returns-then-starts_with c =
     let bytes = c.args.bytes.now in
     let utf8 = c.in-Ok.ensures.cases in
     let same : read c.in-Ok.text.now ≡ value_of bytes = ap read utf8.0 ∙ sym (ap (λ b. when b (read bytes)) (is_utf8-from_IsUtf8 bytes utf8.1)) in
-    told_too _ c.misfit_of_written.ensures (λ none. no_certificate c.in-Ok.text.now bytes same none)
+    told_too _ c.misfit_of_written.ensures (λ m none. no_certificate c.in-Ok.text.now bytes m same none)
 
 pub returns-else-starts_with : goal.returns-else-starts_with
 returns-else-starts_with c =
     let bytes = c.args.bytes.now in
     let utf8 = c.in-Ok.ensures.cases in
     let same : read c.in-Ok.text.now ≡ value_of bytes = ap read utf8.0 ∙ sym (ap (λ b. when b (read bytes)) (is_utf8-from_IsUtf8 bytes utf8.1)) in
-    told_too _ c.misfit_of_written-else-starts_with.ensures (λ none. no_certificate c.in-Ok.text.now bytes same none)
+    told_too _ c.misfit_of_written-else-starts_with.ensures (λ m none. no_certificate c.in-Ok.text.now bytes m same none)
