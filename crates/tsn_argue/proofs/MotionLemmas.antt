@@ -248,9 +248,12 @@ two_facts network first second one other =
 -- the clause of a number
 module _ (clauses : List (Bor (List Fact))) (k : ℕ) (clause : Bor (List Fact)) (below : k < length clauses) (is : clause ≡ get_or clauses k clause) where
   pub clause_there : clause_at (clauses_of clauses) k ≡ clause_of clause.now
-  clause_there = get_or-map (λ (each : Bor (List Fact)). clause_of each.now) clauses k clause [] below ∙ ap (λ (each : Bor (List Fact)). clause_of each.now) (sym is)
+  clause_there =
+      get_or-map (λ (each : Bor (List Fact)). clause_of each.now) clauses k clause [] below
+      ∙ ap (λ (each : Bor (List Fact)). clause_of each.now) (sym is)
 
-pub clause_facts : (network : Network) (clauses : List (Bor (List Fact))) (k : ℕ) (clause : Bor (List Fact)) → k < length clauses → clause ≡ get_or clauses k clause
+pub clause_facts : (network : Network) (clauses : List (Bor (List Fact))) (k : ℕ) (clause : Bor (List Fact)) → k < length clauses
+    → clause ≡ get_or clauses k clause
     → All (All (IsFact network)) (clauses_of clauses) → All (IsFact network) (clause_of clause.now)
 clause_facts network clauses k clause below is all =
     subst (λ (each : Bor (List Fact)). All (IsFact network) (clause_of each.now)) (sym is)
