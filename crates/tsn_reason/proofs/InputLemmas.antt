@@ -1,5 +1,5 @@
 -- What a run comes to, by what it made of the file of its next source.
-use Rattle.std.proofs.Common.{◌≡◌, ◌+◌, inl, inr, ℕ, List, [], ◌∷◌, ◌++◌, Result, Ok, Err, All, refl, arith}
+use Rattle.std.proofs.Common.{◌≡◌, ◌+◌, inl, inr, ℕ, List, [], ◌∷◌, ◌++◌, Result, Ok, Err, All, refl, arith, rules}
 use Rattle.std.proofs.lemmas.List.Elements.{All-cons, All-head, All-nil, All-tail}
 use Rattle.std.proofs.lemmas.List.Sums.{sum_by-cons}
 use Rattle.tsn_device.specs.declared.device.ReadFault.{ReadFault}
@@ -74,7 +74,9 @@ module _ {M A : Type 0} (output : Result A ReadFault → Output) (command : Comm
 
 answers : (command : Command) (files : List (List ℕ)) (sources : List SourceRun) (output : Output) → AreLeft sources → command files output
     → Answers command files (readings_of sources) output
-answers command files sources output left answer = search (rules, All-head, All-tail)
+answers command files [] output left answer = answer
+answers command files (source ∷ sources) output left answer =
+    inl (answer, All-head IsUnread source.reading (readings_of sources) left.unread, All-tail IsUnread source.reading (readings_of sources) left.unread)
 
 -- its file was answered, and the other sources were left
 pub answered : {M A : Type 0} (output : Result A ReadFault → Output) (command : Command) (files : List (List ℕ)) (Makes : List ℕ → M → Type 0)
