@@ -1,17 +1,15 @@
 -- How a run that searches ends, and what is told of it as a value.
-use Rattle.std.proofs.Common.{◌≡◌, ◌⊎◌, inl, inr, ◌++◌, ℕ, List, [], ◌∷◌, Option, Some, None, Result, Ok, Err, IfOk, IfSome, refl, sym, ap, ◌∙◌, string_bytes, subst, arith}
+use Rattle.std.proofs.Common.{◌≡◌, ℕ, List, [], ◌∷◌, Option, Some, None, Result, Ok, Err, IfOk, IfSome, refl, sym, ap, ◌∙◌, string_bytes, subst, arith}
 use Rattle.tsn_device.specs.declared.device.ReadFault.{ReadFault}
-use Rattle.tsn_device.specs.declared.device.ReadFault.TheVariants.{Broken, TooLong, Memory}
+use Rattle.tsn_device.specs.declared.device.ReadFault.TheVariants.{Broken}
 use Rattle.tsn_given.specs.declared.answer.Answer.{Answer}
 use Rattle.tsn_given.specs.declared.outcome.Outcome.{Outcome}
-use Rattle.tsn_given.specs.declared.outcome.Outcome.TheVariants as ends
-use Rattle.tsn_given.specs.Run.{Command, EndsOver, IsLine, IsOutput, Output, RunsOver, SinkRun, SourceRun, readings_of, writing_of}
+use Rattle.tsn_given.specs.Run.{Command, EndsOver, IsLine, Output, RunsOver, SinkRun, SourceRun, writing_of}
 use Rattle.tsn_given.specs.Said.{line_of, status_of}
-use Rattle.tsn_given.specs.Outcome.{ComesOver, EndsAs, IsOutputOf, IsWrittenAs, line_taken, outcome_of, told}
-use Rattle.tsn_given.proofs.RunLemmas.{Appends-nothing, Keeps-same, TellsFaults, never_both, runs_with, some_of}
-use Rattle.tsn_given.proofs.RunsLemmas.{ends_told}
+use Rattle.tsn_given.specs.Outcome.{ComesOver, EndsAs, IsWrittenAs, line_taken, outcome_of, told}
+use Rattle.tsn_given.proofs.RunLemmas.{Appends-nothing, Keeps-same, TellsFaults, runs_with, some_of}
 use Rattle.tsn_prover.specs.declared.run_output.RunOutput.{RunOutput}
-use Rattle.tsn_prover.specs.RunOutput.{Knows, line_alone, printed}
+use Rattle.tsn_prover.specs.RunOutput.{Knows, printed}
 
 -- what follows of a value, where there is one
 pub some_along : {X : Type 0} (found : Option X) (P Q : X → Type 0) → IfSome found P → ((x : X) → P x → Q x) → IfSome found Q
@@ -22,10 +20,7 @@ some_along (Some x) P Q holds follows = follows x holds
 pub printed_is : {S : Type 0} (text : S → List ℕ) (output : RunOutput S) (outcome : Outcome) (one two : List ℕ) → output.answer.outcome ≡ outcome
     → string_bytes output.first ≡ one → text output.second ≡ two
     → printed text (Ok output) ≡ record { status = status_of outcome; texts = one ∷ two ∷ line_of outcome ∷ [] }
-printed_is text output outcome one two same first second =
-    ap (λ o. record { status = status_of o; texts = string_bytes output.first ∷ text output.second ∷ line_of o ∷ [] }) same
-    ∙ ap (λ t. record { status = status_of outcome; texts = t ∷ text output.second ∷ line_of outcome ∷ [] }) first
-    ∙ ap (λ t. record { status = status_of outcome; texts = one ∷ t ∷ line_of outcome ∷ [] }) second
+printed_is text output outcome one two same first second = rw (same, first, second)
 
 -- a line that is refused is printed alone
 pub refused_line : {S : Type 0} (text : S → List ℕ) (output : RunOutput S) (outcome : Outcome) (line : List ℕ) → output.answer.outcome ≡ outcome
@@ -48,22 +43,16 @@ module _ {S : Type 0} (text : S → List ℕ) (one two : Option (List ℕ)) (one
   -- where a file wasn't read, none is written
   fault_told : (fault : ReadFault)
       → IsWrittenAs {A = RunOutput S} (λ o shown. shown ≡ printed text o) (Err fault) (left fault) (status_of (outcome_of (Err fault)))
-  fault_told TooLong = record {
-    whole = λ done. (printed text (Err TooLong), refl, refl, (Appends-nothing one, (Appends-nothing two, (refl, tt))), (refl, (refl, refl)));
-    unread = λ broken. cc;
-    device = λ device unbroken. absurd (omega (arith, device));
-    beginning = λ failed. absurd (failed refl);
-  }
-  fault_told Memory = record {
-    whole = λ done. (printed text (Err Memory), refl, refl, (Appends-nothing one, (Appends-nothing two, (refl, tt))), (refl, (refl, refl)));
-    unread = λ broken. cc;
-    device = λ device unbroken. absurd (omega (arith, device));
-    beginning = λ failed. absurd (failed refl);
-  }
   fault_told Broken = record {
     whole = λ done. absurd (done refl);
     unread = λ broken. (refl, (Keeps-same one, (Keeps-same two, Keeps-same (Some []))), (refl, (refl, refl)));
     device = λ device unbroken. absurd (unbroken refl);
+    beginning = λ failed. absurd (failed refl);
+  }
+  fault_told fault = record {
+    whole = λ done. (printed text (Err fault), refl, refl, (Appends-nothing one, (Appends-nothing two, (refl, tt))), (refl, (refl, refl)));
+    unread = λ broken. cc;
+    device = λ device unbroken. absurd (omega (arith, device));
     beginning = λ failed. absurd (failed refl);
   }
 
@@ -92,26 +81,4 @@ module _ {X : Type 0} (value : Outcome → Option X) (tells : X → Command) (of
       let all = written.whole (λ device. omega (arith, answer.not_device, device)) in
       let kept : value output.answer.outcome ≡ Some x = ap value (sym same) ∙ is in
       let shown : all.0 ≡ printed text (Ok output) = whole all.0 x all.1 kept (sym all.2 ∙ ap status_of same) in
-      let known = subst (λ v. IfSome v (λ y. IsOutput (tells y) (readings_of sources) (printed text (Ok output)))) kept knows in
-      record {
-        output = all.0;
-        answer = subst (λ o. IsOutput (tells x) (readings_of sources) o) (sym shown) known;
-        status_is = all.2;
-        written = all.3;
-      })
-
-  -- and is known once the line is written
-  pub value_over : (sources : List SourceRun) (files : List SinkRun) (answer : Result Answer ReadFault) (output : SinkRun) (outcome : Outcome)
-      (ran : Command) (shown : ℕ) → RunsOver ran sources (files ++ output ∷ []) shown → IsWrittenAs IsOutputOf answer (output ∷ []) (status_of outcome) → (outcome ≡ ends.Failed) ⊎ (outcome ≡ outcome_of answer)
-      → IfSome (value (outcome_of answer))
-      (λ x. EndsOver (tells x) sources (files ++ line_taken (line_of (outcome_of answer)) ∷ []) (status_of (outcome_of answer)))
-      → IfSome (value outcome) (λ x. EndsOver (tells x) sources (files ++ output ∷ []) (status_of outcome))
-  value_over sources files answer output outcome ran shown runs written (inl failed) known =
-      subst (λ o. IfSome (value o) (λ x. EndsOver (tells x) sources (files ++ output ∷ []) (status_of o))) (sym failed) (none_of_fault _ Broken)
-  value_over sources files (Err fault) output outcome ran shown runs written (inr same) known =
-      subst (λ o. IfSome (value o) (λ x. EndsOver (tells x) sources (files ++ output ∷ []) (status_of o))) (sym same) (none_of_fault _ fault)
-  value_over sources files (Ok answer) output outcome ran shown runs written (inr same) known =
-      subst (λ o. IfSome (value o) (λ x. EndsOver (tells x) sources (files ++ output ∷ []) (status_of outcome))) (sym same)
-      (some_along (value answer.outcome) _ _ known
-      (λ x ended. ends_told (tells x) sources files (Ok answer) output (status_of outcome) ended written
-      (λ device. omega (arith, answer.not_device, ap status_of same, device))))
+      record { output = all.0; answer = rw shown (rw kept at knows); status_is = all.2; written = all.3 })

@@ -27,6 +27,7 @@ use Rattle.tsn_given.specs.Run.{Command, EndsOver, Output, RunsOver, SinkRun, So
 use Rattle.tsn_given.specs.Said.{line_of, status_of, stop_of}
 use Rattle.tsn_given.specs.Outcome.{IsOutputOf, IsWrittenAs, line_taken, outcome_of}
 use Rattle.tsn_given.proofs.RunLemmas.{never_both, runs_over, some_of}
+use Rattle.tsn_given.proofs.RunsLemmas.{ends_told}
 use Rattle.tsn_given.proofs.SaidLemmas.{known_stop}
 use Rattle.tsn_reason.specs.declared.inputs.NetworkRead.TheVariants as of_network
 use Rattle.tsn_reason.specs.Inputs.{IsReadOver, TakesNetwork}
@@ -35,7 +36,7 @@ use Rattle.tsn_prover.specs.declared.run_output.RunOutput.{RunOutput}
 use Rattle.tsn_prover.specs.declared.run_output.Written.{Written}
 use Rattle.tsn_prover.specs.RunOutput.{ComesPrinted, IsCut, IsPrinted, Knows, cert_bytes, printed, written_bytes, written_in}
 use Rattle.tsn_prover.specs.Plan.{IsTreeOf, IsWanted, PlanAnswers, PlanStops, ShowsIfAny, TellsPlan, TellsStop, best_plan_text, finished_output, found_outcome, outcome_found, stop_for, text_found}
-use Rattle.tsn_prover.proofs.EndLemmas.{printed_is, some_along, value_over}
+use Rattle.tsn_prover.proofs.EndLemmas.{printed_is, some_along}
 use Rattle.tsn_prover.proofs.PrintLemmas.{early, is_early}
 use Rattle.tsn_prover.proofs.TreeLemmas.{cert_is_there}
 
@@ -107,11 +108,12 @@ pub stop_over : (limit : ℕ) (sources : List SourceRun) (files : List SinkRun) 
     → IfSome (stop_of (outcome_of answer))
     (λ stop. EndsOver (PlanStops limit stop) sources (files ++ line_taken (line_of (outcome_of answer)) ∷ []) (status_of (outcome_of answer)))
     → IfSome (stop_of outcome) (λ stop. EndsOver (PlanStops limit stop) sources (files ++ output ∷ []) 5)
-stop_over limit sources files answer output outcome ran shown runs written is known =
-    let over = value_over stop_of (PlanStops limit) no_stop sources files answer output outcome ran shown runs written is known in
+stop_over limit sources files answer output outcome ran shown runs written (inl failed) known = rw failed tt
+stop_over limit sources files answer output outcome ran shown runs written (inr same) known =
     some_of (stop_of outcome) _
-    (λ stop some. subst (λ n. EndsOver (PlanStops limit stop) sources (files ++ output ∷ []) n) (known_stop outcome (ap is_some some))
-    (subst (λ s. IfSome s (λ x. EndsOver (PlanStops limit x) sources (files ++ output ∷ []) (status_of outcome))) some over))
+    (λ stop some.
+    let five : status_of outcome ≡ 5 = known_stop outcome (ap is_some some) in
+    ends_told (PlanStops limit stop) sources files answer output 5 (rw (ap stop_of (sym same) ∙ some) at known) (rw five at written) (λ device. omega (arith, device)))
 
 module _ (effort : Effort) (wanted : Bool) (source : SourceRun) (output : RunOutput (Option Written)) where
   -- what is printed of a plan that was found tells of it
@@ -182,5 +184,5 @@ module _ (effort : Effort) (wanted : Bool) (source : SourceRun) (output : RunOut
 pub plan_ends : (command : Command) (sources : List SourceRun) (sinks : List SinkRun) (output : RunOutput (Option Written)) (status : ℕ)
     → ComesPrinted command sources (Ok output) → IsWrittenAs IsPrinted (Ok output) sinks status → RunsOver command sources sinks status
 plan_ends command sources sinks output status comes written =
-    runs_over IsPrinted command sources sinks (Ok output) status (comes (early output 0) (is_early output 0)).failures written
+    runs_over IsPrinted command sources sinks (Ok output) status (comes (early output) (is_early output)).failures written
     (λ unbroken shown prints. (comes shown prints).comes) (λ broken. absurd (never_both broken))

@@ -1,11 +1,9 @@
 -- What a run of `prove` prints tells what was found of a plan.
-use Rattle.std.proofs.Common.{◌≡◌, ◌⊎◌, ℕ, inl, inr, Ok, Err, Option, Some, None, IfSome, String, Global, string_bytes, refl, sym, subst, arith}
+use Rattle.std.proofs.Common.{◌≡◌, ◌⊎◌, ℕ, inl, inr, Ok, Err, Option, None, IfSome, String, Global, string_bytes, rules}
 use Rattle.tsn_model.specs.Network.{Network}
 use Rattle.tsn_cert.specs.declared.plan.Plan.{Plan}
 use Rattle.tsn_device.specs.declared.device.ReadFault.{ReadFault}
-use Rattle.tsn_device.specs.declared.device.ReadFault.TheVariants.{Broken, TooLong, Memory}
 use Rattle.tsn_given.specs.declared.outcome.Outcome.{Outcome}
-use Rattle.tsn_given.specs.declared.outcome.Outcome.TheVariants as ends
 use Rattle.tsn_given.specs.Said.{settled_of, status_of}
 use Rattle.tsn_given.specs.Outcome.{outcome_of}
 use Rattle.tsn_prover.specs.declared.run_output.RunOutput.{RunOutput}
@@ -14,37 +12,14 @@ use Rattle.tsn_prover.specs.Prove.{FindsAs, FindsOf, Judges, RejectsClaim, count
 
 -- of a file that is refused nothing is found
 pub refused_none : (outcome : Outcome) → status_of outcome ≡ 3 → found_of outcome ≡ None
-refused_none ends.Taken three = refl
-refused_none (ends.Valid a) three = refl
-refused_none (ends.NotValid a) three = refl
-refused_none (ends.Optimal a b) three = absurd (omega (arith, three))
-refused_none (ends.NoSchedule a) three = absurd (omega (arith, three))
-refused_none (ends.Stopped a b) three = absurd (omega (arith, three))
-refused_none (ends.Proved a b) three = absurd (omega (arith, three))
-refused_none (ends.Undercut a b c) three = absurd (omega (arith, three))
-refused_none (ends.AcceptedOptimal a) three = refl
-refused_none (ends.AcceptedFirst a) three = refl
-refused_none ends.AcceptedNone three = refl
-refused_none (ends.RefusedNetwork a) three = refl
-refused_none (ends.RefusedFile a b) three = refl
-refused_none (ends.RefusedPlan a) three = refl
-refused_none (ends.RefusedCert a) three = refl
-refused_none ends.TooLong three = refl
-refused_none ends.NoMemory three = refl
-refused_none ends.Failed three = refl
+refused_none outcome three = search rules
 
 -- nor where one wasn't read
 pub no_finding : (fault : ReadFault) → found_of (outcome_of (Err fault)) ≡ None
-no_finding TooLong = refl
-no_finding Memory = refl
-no_finding Broken = refl
-
-pub nothing_found : (outcome : Outcome) (P : Outcome → Type 0) → found_of outcome ≡ None → IfSome (found_of outcome) P
-nothing_found outcome P none = subst (λ found. IfSome found P) (sym none) tt
+no_finding fault = search rules
 
 found_so : (outcome : Outcome) (count : Option ℕ) (P : Outcome → Type 0) → P outcome → IfSome (counted count outcome) P
-found_so outcome None P holds = tt
-found_so outcome (Some c) P holds = holds
+found_so outcome count P holds = search rules
 
 module _ (limit : ℕ) (network : Network) (stated : Plan) (output : RunOutput (String Global)) where
   -- what is printed of a plan that was judged answers to it
@@ -58,4 +33,4 @@ module _ (limit : ℕ) (network : Network) (stated : Plan) (output : RunOutput (
       → IfSome (found_of output.answer.outcome) (λ found. FindsAs limit network stated found (printed string_bytes (Ok output)))
   finds (inl told) =
       found_so output.answer.outcome (settled_of output.answer.outcome) (λ found. FindsAs limit network stated found (printed string_bytes (Ok output))) told
-  finds (inr (rejects, none)) = nothing_found output.answer.outcome _ none
+  finds (inr (rejects, none)) = rw none tt

@@ -1,6 +1,5 @@
 //! Writes a certificate: a tree a node at a time, an argument as one text.
-ghost use Rattle.std.specs.Prelude.{◌≡◌, ◌<◌, ◌+◌, ◌++◌, ◌-◌, ◌^◌, ℕ, List, false, IfOk, IsSome, OnErr, OnOk, string_bytes, take};
-ghost use Rattle.std.specs.Io.KnownBytes.{Appends};
+ghost use Rattle.std.specs.Prelude.{◌<◌, ◌++◌, ◌-◌, ◌^◌, ◌≡◌, [], false, IsSome, OnErr, OnOk, string_bytes};
 ghost use Rattle.tsn_cert.specs.Cert.{cert_text};
 ghost use Rattle.tsn_cert.specs.Laws.{IsInGrammar, AreInGrammar};
 ghost use Rattle.tsn_cert.specs.Node.{tree_node};
@@ -8,61 +7,18 @@ ghost use Rattle.tsn_cert.specs.Text.{node_text, nodes_text};
 ghost use Rattle.tsn_given.specs.Run.{taken_in, failed_in};
 ghost use Rattle.tsn_cert.specs.Argument.{argument_text};
 ghost use Rattle.tsn_prover.specs.RunOutput.{HasFormIfAny, written_bytes, written_in};
-ghost use Rattle.tsn_prover.specs.Pieces.{IsParted};
+ghost use Rattle.tsn_prover.specs.Pieces.{IsCounted, IsPut};
 
 use crate::run_output::Written;
-use std::alloc::{AllocError, Global};
+use std::alloc::Global;
 use tsn_book::Spelling;
 use tsn_cert::{Argument, Node};
 use tsn_codec::argument_to_json;
 use tsn_codec::cert::text::{head_to_json, node_to_json, tail_to_json};
-use tsn_device::device::{Broken, Sink, write_all, write_whole};
-use tsn_model::NoMemory;
+use tsn_device::device::{ReadFault, Sink, write_all, write_whole};
 
 // How many bytes are written at a time, at least, but for the last ones.
 const PIECE: usize = 65_536;
-
-/// Why a certificate wasn't written whole.
-#[derive(Clone, Copy)]
-pub(crate) enum CertFault {
-    /// There was no memory for the text of a node, or of an argument.
-    Memory,
-    /// A write failed.
-    Broken,
-}
-
-impl From<NoMemory> for CertFault {
-    ghost use Rattle.std.specs.Prelude.{◌≡◌};
-    ghost use Rattle.tsn_prover.specs.declared.certificate.CertFault.TheVariants.{Memory};
-
-    ghost from_gives = { λ _ e. e ≡ Memory };
-
-    fn from(_refused: NoMemory) -> CertFault {
-        CertFault::Memory
-    }
-}
-
-impl From<AllocError> for CertFault {
-    ghost use Rattle.std.specs.Prelude.{◌≡◌};
-    ghost use Rattle.tsn_prover.specs.declared.certificate.CertFault.TheVariants.{Memory};
-
-    ghost from_gives = { λ _ e. e ≡ Memory };
-
-    fn from(_refused: AllocError) -> CertFault {
-        CertFault::Memory
-    }
-}
-
-impl From<Broken> for CertFault {
-    ghost use Rattle.std.specs.Prelude.{◌≡◌};
-    ghost use Rattle.tsn_prover.specs.declared.certificate.CertFault.TheVariants.{Broken};
-
-    ghost from_gives = { λ _ e. e ≡ Broken };
-
-    fn from(_broken: Broken) -> CertFault {
-        CertFault::Broken
-    }
-}
 
 /// Writes a certificate, if there is one, to a sink, and says that it is whole. Where that fails, the bytes written are a beginning
 /// of it.
@@ -70,16 +26,13 @@ pub(crate) fn write_wanted<C: Sink>(
     alloc: Global,
     sink: &mut Option<C>,
     cert: Option<Written>,
-) -> Result<(), CertFault>
+) -> Result<(), ReadFault>
     requires few_failures { failed_in C.failed sink.old < 2 ^ 64 - 1 }
     requires wanted { IsSome cert → IsSome sink.old }
-    ensures whole { OnOk result (Appends (taken_in C.taken sink.old) (taken_in C.taken sink.new) (written_bytes cert)) }
-    ensures beginning { OnErr result ((n : ℕ)
-        × Appends (taken_in C.taken sink.old) (taken_in C.taken sink.new) (take n (written_bytes cert))) }
+    ensures put { IsPut (taken_in C.taken sink.old) (taken_in C.taken sink.new) (written_bytes cert) (λ _. []) result }
+    ensures failures { IsCounted (failed_in C.failed sink.old) (failed_in C.failed sink.new) result }
     ensures some { OnErr result (IsSome cert) }
     ensures form { OnOk result (HasFormIfAny (written_in cert)) }
-    ensures kept { (result ≡ Err CertFault.Broken → ⊥) → failed_in C.failed sink.new ≡ failed_in C.failed sink.old }
-    ensures broken { result ≡ Err CertFault.Broken → failed_in C.failed sink.new ≡ failed_in C.failed sink.old + 1 }
 {
     let Some(cert) = cert else {
         return Ok(());
@@ -94,13 +47,10 @@ pub(crate) fn write_wanted<C: Sink>(
 }
 
 // Writes an argument, and says that it is whole. Where there is no memory for its text nothing of it is written.
-fn write_argument<C: Sink>(alloc: Global, sink: &mut C, argument: Argument) -> Result<(), CertFault>
+fn write_argument<C: Sink>(alloc: Global, sink: &mut C, argument: Argument) -> Result<(), ReadFault>
     requires { C.failed sink.old < 2 ^ 64 - 1 }
-    ensures whole { OnOk result (Appends (C.taken sink.old) (C.taken sink.new) (argument_text argument)) }
-    ensures beginning { OnErr result ((n : ℕ)
-        × Appends (C.taken sink.old) (C.taken sink.new) (take n (argument_text argument))) }
-    ensures kept { (result ≡ Err CertFault.Broken → ⊥) → C.failed sink.new ≡ C.failed sink.old }
-    ensures broken { result ≡ Err CertFault.Broken → C.failed sink.new ≡ C.failed sink.old + 1 }
+    ensures put { IsPut (C.taken sink.old) (C.taken sink.new) (argument_text argument) (λ _. []) result }
+    ensures failures { IsCounted (C.failed sink.old) (C.failed sink.new) result }
 {
     let text = argument_to_json(alloc, &argument);
     drop(argument);
@@ -110,14 +60,11 @@ fn write_argument<C: Sink>(alloc: Global, sink: &mut C, argument: Argument) -> R
 }
 
 // Writes a tree, and says that it is whole.
-fn write_cert<C: Sink>(alloc: Global, sink: &mut C, cert: Spelling) -> Result<(), CertFault>
+fn write_cert<C: Sink>(alloc: Global, sink: &mut C, cert: Spelling) -> Result<(), ReadFault>
     requires { C.failed sink.old < 2 ^ 64 - 1 }
-    ensures whole { OnOk result (Appends (C.taken sink.old) (C.taken sink.new) (cert_text cert)) }
+    ensures put { IsPut (C.taken sink.old) (C.taken sink.new) (cert_text cert) (λ _. []) result }
+    ensures failures { IsCounted (C.failed sink.old) (C.failed sink.new) result }
     ensures form { OnOk result (AreInGrammar cert.nodes) }
-    ensures beginning { OnErr result ((n : ℕ)
-        × Appends (C.taken sink.old) (C.taken sink.new) (take n (cert_text cert))) }
-    ensures kept { (result ≡ Err CertFault.Broken → ⊥) → C.failed sink.new ≡ C.failed sink.old }
-    ensures broken { result ≡ Err CertFault.Broken → C.failed sink.new ≡ C.failed sink.old + 1 }
 {
     let mut cert = cert;
     let head = head_to_json(alloc, cert.format())?;
@@ -135,16 +82,12 @@ fn write_nodes<C: Sink>(
     sink: &mut C,
     cert: &mut Spelling,
     head: String,
-) -> Result<String, CertFault>
+) -> Result<String, ReadFault>
     requires { C.failed sink.old < 2 ^ 64 - 1 }
-    ensures parted { IfOk result (λ text. IsParted (C.taken sink.old) (C.taken sink.new) (string_bytes text)
-        (string_bytes head ++ nodes_text false cert.old.nodes)) }
-    ensures beginning { OnErr result ((rest : List ℕ) × IsParted (C.taken sink.old) (C.taken sink.new) rest
-        (string_bytes head ++ nodes_text false cert.old.nodes)) }
+    ensures put { IsPut (C.taken sink.old) (C.taken sink.new) (string_bytes head ++ nodes_text false cert.old.nodes) string_bytes result }
+    ensures failures { IsCounted (C.failed sink.old) (C.failed sink.new) result }
     ensures form { OnOk result (AreInGrammar cert.old.nodes) }
     ensures target { cert.new.target ≡ cert.old.target }
-    ensures kept { (result ≡ Err CertFault.Broken → ⊥) → C.failed sink.new ≡ C.failed sink.old }
-    ensures broken { result ≡ Err CertFault.Broken → C.failed sink.new ≡ C.failed sink.old + 1 }
 {
     let mut text = head;
     let mut later = false;
@@ -162,15 +105,11 @@ fn write_node<C: Sink>(
     text: &mut String,
     later: bool,
     node: Node,
-) -> Result<(), CertFault>
+) -> Result<(), ReadFault>
     requires { C.failed sink.old < 2 ^ 64 - 1 }
-    ensures parted { OnOk result (IsParted (C.taken sink.old) (C.taken sink.new) (string_bytes text.new)
-        (string_bytes text.old ++ node_text later (tree_node node))) }
+    ensures put { IsPut (C.taken sink.old) (C.taken sink.new) (string_bytes text.old ++ node_text later (tree_node node)) (λ _. string_bytes text.new) result }
+    ensures failures { IsCounted (C.failed sink.old) (C.failed sink.new) result }
     ensures form { OnOk result (IsInGrammar (tree_node node)) }
-    ensures beginning { OnErr result ((rest : List ℕ) × IsParted (C.taken sink.old) (C.taken sink.new) rest
-        (string_bytes text.old ++ node_text later (tree_node node))) }
-    ensures kept { (result ≡ Err CertFault.Broken → ⊥) → C.failed sink.new ≡ C.failed sink.old }
-    ensures broken { result ≡ Err CertFault.Broken → C.failed sink.new ≡ C.failed sink.old + 1 }
 {
     let more = node_to_json(alloc, later, &node);
     drop(node);

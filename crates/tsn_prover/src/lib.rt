@@ -1,5 +1,5 @@
-//! The two commands that search: what `plan` prints and writes of what its search found, and the run of `prove`, which searches for a
-//! proof of a plan, over readers and writers of bytes; that command by its words too, over whatever it is given. And what both share:
+//! The two commands that search: what `plan` prints and writes of what its search found, and `prove`, which searches for a proof of a
+//! plan, over readers and writers of bytes, and by its words over whatever it is given. And what both share:
 //! the files that are written, and how a search ended, or why none began.
 #![tactic(auto)]
 
@@ -21,7 +21,7 @@ pub use files::{Files, plan_files};
 pub use output::{alone, output_for};
 pub use print::write_plan;
 pub use proof::prove;
-pub use run::{prove_answer, prove_run};
+pub use run::prove_answer;
 pub use run_output::{RunOutput, Written};
 pub use tsn_given::run::NO_SCHEDULE;
 pub use unwritten::{Unwritten, unwritable};

@@ -5,7 +5,7 @@ ghost use Rattle.tsn_given.specs.Said.{line_of, status_of};
 ghost use Rattle.tsn_given.specs.Outcome.{IsWrittenAs, line_taken, outcome_of};
 ghost use Rattle.tsn_prover.specs.RunOutput.{IsPrinted, IsShown};
 
-use crate::certificate::{CertFault, write_wanted};
+use crate::certificate::write_wanted;
 use crate::run_output::{RunOutput, Written};
 use std::alloc::Global;
 use tsn_device::device::{ReadFault as Unanswered, Sink, write_whole};
@@ -38,8 +38,7 @@ pub fn write_plan<P: Sink, C: Sink>(
     }
     match write_wanted(alloc, cert, found) {
         Ok(()) => Ok(answer),
-        Err(CertFault::Memory) => Err(Unanswered::Memory),
-        Err(CertFault::Broken) => Err(Unanswered::Broken),
+        Err(fault) => Err(fault),
     }
 }
 

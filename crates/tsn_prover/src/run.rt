@@ -1,14 +1,13 @@
 //! `prove`: shows that no valid schedule undercuts a plan, whoever made it, or finds one that does.
-ghost use Rattle.std.specs.Prelude.{◌≡◌, ◌<◌, ◌-◌, ◌^◌, ◌↔◌, [], ◌∷◌, IfOk, IfSome, IsTrue, None, Ok, is_some, string_bytes};
+ghost use Rattle.std.specs.Prelude.{◌≡◌, ◌<◌, ◌-◌, ◌^◌, [], ◌∷◌, IfOk, IfSome, None, Ok, string_bytes};
 ghost use Rattle.tsn_check.specs.Plans.{span_in};
 ghost use Rattle.tsn_check.specs.Numbers.{plan_code};
-ghost use Rattle.tsn_given.specs.Run.{EndsOver, RunsOver, sink_over, source_over};
-ghost use Rattle.tsn_given.specs.Said.{line_of, status_of, stop_of};
+ghost use Rattle.tsn_given.specs.Run.{EndsOver, sink_over, source_over};
+ghost use Rattle.tsn_given.specs.Said.{line_of, status_of};
 ghost use Rattle.tsn_given.specs.Outcome.{ComesOver, EndsAs, line_taken, outcome_of};
 ghost use Rattle.tsn_prover.specs.RunOutput.{Knows, line_alone, printed};
 ghost use Rattle.tsn_prover.specs.Prove.{Judges, ProveAnswers, ProveFinds, cert_for, found_of, outcome_for, plan_for, span_if_any};
 
-use crate::ended::end_run;
 use crate::output::alone;
 use crate::print::write_proof;
 use crate::run_output::RunOutput;
@@ -19,7 +18,6 @@ use tsn_cert::Plan;
 use tsn_check::{PlanFault, judge_claim};
 use tsn_codec::{argument_to_json, plan_to_json};
 use tsn_device::device::{ReadFault, Sink, Source};
-use tsn_given::run::STOPPED;
 use tsn_given::{Answer, Outcome, Stop};
 use tsn_model::NoMemory;
 use tsn_reason::{Claim, NetworkRead, PlanRead, line_on_plan, read_network, read_plan, rejection};
@@ -27,45 +25,10 @@ use tsn_timing::Problem;
 
 /// Reads a network file and a plan file, the first judged before the second is read, and seeks a valid schedule that undercuts the
 /// plan, by at most so many conflicts. Where there is none it writes a certificate of format 3, an argument of at most so many
-/// steps, that `check` accepts; where one is found it writes that; and then a line on what was found, or on what is refused. The
-/// line tells the steps of the argument, or else the conflicts. Where the limit is met it writes a line alone. The supervisor hears of the
-/// conflicts. The answer is how the run ended: that a device failed, or what was found of the plan: where the limit was met, its
-/// flowspan, if it is a schedule, and what no valid schedule's flowspan is below.
-pub fn prove_run<N: Source, P: Source, S: Supervisor, C: Sink, B: Sink, W: Sink>(
-    alloc: Global,
-    network: &mut N,
-    plan: &mut P,
-    limit: usize,
-    supervisor: &S,
-    cert: &mut C,
-    better: &mut B,
-    sink: &mut W,
-) -> Outcome
-    requires network_reads { N.failed network.old < 2 ^ 64 - 1 }
-    requires plan_reads { P.failed plan.old < 2 ^ 64 - 1 }
-    requires cert_writes { C.failed cert.old < 2 ^ 64 - 1 }
-    requires plan_writes { B.failed better.old < 2 ^ 64 - 1 }
-    requires writes { W.failed sink.old < 2 ^ 64 - 1 }
-
-    ensures runs { RunsOver (ProveAnswers limit)
-        (source_over N.given N.failed N.is_at_end network.old network.new
-        ∷ source_over P.given P.failed P.is_at_end plan.old plan.new ∷ [])
-        (sink_over C.taken C.failed cert.old cert.new ∷ sink_over B.taken B.failed better.old better.new
-        ∷ sink_over W.taken W.failed sink.old sink.new ∷ []) (status_of result) }
-
-    // What was found of the plan, as a value.
-    ensures stopped { status_of result ≡ STOPPED ↔ IsTrue (is_some (stop_of result)) }
-    ensures found { IfSome (found_of result) (λ found. EndsOver (ProveFinds limit found)
-        (source_over N.given N.failed N.is_at_end network.old network.new
-        ∷ source_over P.given P.failed P.is_at_end plan.old plan.new ∷ [])
-        (sink_over C.taken C.failed cert.old cert.new ∷ sink_over B.taken B.failed better.old better.new
-        ∷ sink_over W.taken W.failed sink.old sink.new ∷ []) (status_of result)) }
-{
-    let answer = prove_answer(alloc, network, plan, limit, supervisor, cert, better);
-    end_run(sink, answer)
-}
-
-/// Does what `prove_run` does, but for the line: what is said is answered, before it is written.
+/// steps, that `check` accepts; where one is found it writes that; and it answers what was found, or why something is refused, with a
+/// line that isn't written yet. The line tells the steps of the argument, or else the conflicts. Where the limit is met nothing is
+/// written: the answer has the plan's flowspan, if it is a schedule, and what no valid schedule's flowspan is below. The supervisor hears
+/// of the conflicts.
 pub fn prove_answer<N: Source, P: Source, S: Supervisor, C: Sink, B: Sink>(
     alloc: Global,
     network: &mut N,

@@ -8,7 +8,7 @@ use Rattle.tsn_reason.proofs.CheckLemmas.{goes_on_after_network}
 use Rattle.tsn_given.proofs.RunLemmas.{Keeps-same}
 use Rattle.tsn_reason.proofs.InputLemmas.{also_left, answered, none_left, unread, went_on}
 use Rattle.tsn_prover.proofs.EndLemmas.{printed_faults, refused_line, some_along}
-use Rattle.tsn_prover.proofs.ProveLemmas.{finds, judged, nothing_found, refused_none}
+use Rattle.tsn_prover.proofs.ProveLemmas.{finds, judged, refused_none}
 use Rattle.tsn_prover.proofs.run.output_of.Goals as goal
 
 pub returns-in_ok-output-in-Ok-Taken-clause-comes : goal.returns-in_ok-output-in-Ok-Taken-clause-comes
@@ -43,7 +43,7 @@ returns-in-Ok-Refused-clause-comes g c =
 pub returns-in-Ok-Refused-clause-knows : goal.returns-in-Ok-Refused-clause-knows
 returns-in-Ok-Refused-clause-knows g c =
     let three = (rw c.in-Ok-Refused.field-0-is at c.in-Ok-Refused.ensures).reads.2.2.0 in
-    nothing_found _ _ (ap found_of c.alone.ensures.answer ∙ refused_none c.in-Ok-Refused.answer.outcome three)
+    rw (ap found_of c.alone.ensures.answer ∙ refused_none c.in-Ok-Refused.answer.outcome three) tt
 
 pub returns-in-Refused-clause-comes : goal.returns-in-Refused-clause-comes
 returns-in-Refused-clause-comes g c =
@@ -57,7 +57,7 @@ returns-in-Refused-clause-comes g c =
 pub returns-in-Refused-clause-knows : goal.returns-in-Refused-clause-knows
 returns-in-Refused-clause-knows g c =
     let three = (rw c.in-Refused.is at c.in_ok-problem.ensures).reads.2.2.0 in
-    nothing_found _ _ (ap found_of c.alone-in-Refused.ensures.answer ∙ refused_none c.in-Refused.answer.outcome three)
+    rw (ap found_of c.alone-in-Refused.ensures.answer ∙ refused_none c.in-Refused.answer.outcome three) tt
 
 pub returns-in-Err-clause-comes : goal.returns-in-Err-clause-comes
 returns-in-Err-clause-comes g c =
