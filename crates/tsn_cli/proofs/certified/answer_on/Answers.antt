@@ -6,7 +6,7 @@ use Rattle.tsn_cli.proofs.certified.answer_on.Goals as goal
 pub returns-clause-judges : goal.returns-clause-judges
 returns-clause-judges g c =
     let whole = c.in_ok-bytes.ensures.whole in
-    let given = rw c.deref.ensures.value at c.in-Err.ensures in
+    let given = rw c.deref.ensures.value at c.in-Err.ensures.certificate in
     let refused = c.in-Err.refused in
     record {
       reads = (
