@@ -126,7 +126,10 @@ impl<'a, R: Files + Print + AllocGlobal + Threads + Wait + Sync> Session<'a, R> 
         if mark.is_empty() || mark == "#" {
             return Ok(());
         }
-        ensure!(self.part != Part::Counted, "a line behind the number of rows");
+        ensure!(
+            self.part != Part::Counted,
+            "a line behind the number of rows"
+        );
         match mark {
             "row" => self.begin(Part::Row, rest),
             "table" => self.begin(Part::Table, rest),
@@ -175,7 +178,10 @@ impl<'a, R: Files + Print + AllocGlobal + Threads + Wait + Sync> Session<'a, R> 
     // The last row has to be whole, and the table to tell how many it has.
     fn end_table(&mut self) -> Result<()> {
         self.end()?;
-        ensure!(self.part == Part::Counted, "no line tells how many rows there are");
+        ensure!(
+            self.part == Part::Counted,
+            "no line tells how many rows there are"
+        );
         Ok(())
     }
 
