@@ -2,10 +2,12 @@ pub mod JsonLemmas
 pub mod Firsts
 pub mod Above
 pub mod Misfits
+pub mod Counted
 pub mod ToldLemmas
 pub mod Elements
 pub mod Pairs
 pub mod Lists
+pub mod Steps
 pub mod Nodes
 pub mod Plain
 pub mod Written

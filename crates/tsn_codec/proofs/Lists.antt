@@ -61,7 +61,7 @@ stops_said form xs d ds e s = ap (option_and_then (each form.said)) e ∙ stops_
 -- ---- tokens that spell values
 
 -- the next element of an array
-abbrev NextItem : ℕ → ℕ → List Token → Items → List Token → Type 0
+abbrev pub NextItem : ℕ → ℕ → List Token → Items → List Token → Type 0
 NextItem depth n ts is rest =
     (d : Data) × (ds : Items) × (r : List Token) × (is ≡ item d ds) × (value_read depth ts ≡ Some (d, r)) × (length r ≤ n - 1)
     × (converted of_items (items (value depth) (n - 1) r) ≡ Some (ds, rest))
@@ -88,7 +88,7 @@ with_json depth n ts r j is rest says shorter (Some d) e h =
     behind_item depth n ts r d is rest (ap (converted of_json) says ∙ ap (option_map (λ d. (d, r))) e) shorter
     (converted of_items (items (value depth) (n - 1) r)) refl (sym (with_item j d e (items (value depth) (n - 1) r)) ∙ h)
 
-next_item : (depth n : ℕ) (ts : List Token) (is : Items) (rest : List Token) → after_end_array ts ≡ None → length ts ≤ n
+pub next_item : (depth n : ℕ) (ts : List Token) (is : Items) (rest : List Token) → after_end_array ts ≡ None → length ts ≤ n
     → (o : Option (json.Json × List Token)) → value depth ts ≡ o → converted of_items (items (value depth) n ts) ≡ Some (is, rest)
     → NextItem depth n ts is rest
 next_item depth n ts is rest going enough None e h =
@@ -107,12 +107,12 @@ pub says_none : {A : Type 0} (o : Option A) (r : List Token) → option_map {U =
 says_none None r e = refl
 says_none (Some a) r e = absurd (cc)
 
-says_some : {A : Type 0} (o : Option A) (r rest : List Token) (x : A) → option_map {U = A × List Token} (λ a. (a, r)) o ≡ Some (x, rest)
+pub says_some : {A : Type 0} (o : Option A) (r rest : List Token) (x : A) → option_map {U = A × List Token} (λ a. (a, r)) o ≡ Some (x, rest)
     → (o ≡ Some x) × (r ≡ rest)
 says_some None r rest x e = never_some (x, rest) e
 says_some (Some a) r rest x e = let same = both_same (a, r) (x, rest) e in (ap Some same.0, same.1)
 
-stops_items : {A : Type 0} (least : ℕ) (form : Form A) → Says least form → (depth n : ℕ) → least ≤ depth → (xs : List A) (ts : List Token) (is : Items)
+pub stops_items : {A : Type 0} (least : ℕ) (form : Form A) → Says least form → (depth n : ℕ) → least ≤ depth → (xs : List A) (ts : List Token) (is : Items)
     (rest : List Token) → length ts ≤ n → converted of_items (items (value depth) n ts) ≡ Some (is, rest) → Stops form.taken xs ts
     → StopsAt form.said xs (listed is)
 stops_items least form says depth n deep [] ts is rest enough h s =
@@ -126,7 +126,7 @@ stops_items least form says depth n deep (x ∷ xs) ts is rest enough h s =
       stops_items least form says depth (n - 1) deep xs it.2 it.1 rest it.5 it.6 (rw both.1 s.1.2),
     )
 
-whole_array : (ts inner : List Token) → after_begin_array ts ≡ Some inner → ts ≡ token.begin_array ∷ inner
+pub whole_array : (ts inner : List Token) → after_begin_array ts ≡ Some inner → ts ≡ token.begin_array ∷ inner
 whole_array [] inner e = absurd (cc)
 whole_array (token.begin_object ∷ ts) inner e = absurd (cc)
 whole_array (token.end_object ∷ ts) inner e = absurd (cc)
@@ -176,16 +176,25 @@ array_of : (d : Data) (rest : List Token) (o : Option (Items × List Token)) →
 array_of d rest None e = never_some (d, rest) e
 array_of d rest (Some p) e = let same = both_same (array p.0, p.1) (d, rest) e in (p.0, sym same.0, ap (λ r. Some (p.0, r)) same.1)
 
+-- the elements of an array
+abbrev pub ArrayInside : ℕ → List Token → Data → List Token → Type 0
+ArrayInside depth inner d rest =
+    (is : Items) × (d ≡ array is) × (converted of_items (items (value (depth - 1)) (length inner) inner) ≡ Some (is, rest))
+
+pub array_inside : (depth : ℕ) → 1 ≤ depth → (ts inner : List Token) (d : Data) (rest : List Token) → value_read depth ts ≡ Some (d, rest)
+    → after_begin_array ts ≡ Some inner → ArrayInside depth inner d rest
+array_inside depth deep ts inner d rest spelled e =
+    let inside : value depth ts ≡ parse_map json.array (items (value (depth - 1)) (length inner) inner) =
+    ap (value depth) (whole_array ts inner e) ∙ value-begin_array depth inner (omega arith) in
+    array_of d rest (converted of_items (items (value (depth - 1)) (length inner) inner))
+    (sym (converted-array (items (value (depth - 1)) (length inner) inner)) ∙ sym (ap (converted of_json) inside) ∙ spelled)
+
 -- an array of values of which one is of another form
 pub stops_value : {A : Type 0} (least : ℕ) (form : Form A) → Says least form → (depth : ℕ) → suc least ≤ depth → (xs : List A) (ts inner : List Token)
     (d : Data) (rest : List Token) → value_read depth ts ≡ Some (d, rest) → after_begin_array ts ≡ Some inner → Stops form.taken xs inner
     → (ds : List Data) × (elements d ≡ Some ds) × StopsAt form.said xs ds
 stops_value least form says depth deep xs ts inner d rest spelled e s =
-    let begun = whole_array ts inner e in
-    let inside : value depth ts ≡ parse_map json.array (items (value (depth - 1)) (length inner) inner) =
-    ap (value depth) begun ∙ value-begin_array depth inner (omega arith) in
-    let it = array_of d rest (converted of_items (items (value (depth - 1)) (length inner) inner))
-    (sym (converted-array (items (value (depth - 1)) (length inner) inner)) ∙ sym (ap (converted of_json) inside) ∙ spelled) in
+    let it = array_inside depth (omega arith) ts inner d rest spelled e in
     let same : length inner ≤ length inner = omega arith in (
       listed it.0,
       ap elements it.1,
@@ -256,16 +265,19 @@ stops_first f (x ∷ xs) (d ∷ ds) s =
     let more = stops_first f xs ds s.1 in
     (more.0, rw (s.0, more.1) (omega arith), omega (arith, more.2), more.3)
 
+pub first_stop : {A : Type 0} (f : Data → Option A) (xs : List A) (n : ℕ) (d : Data) (ds : List Data) → n ≡ length xs → elements d ≡ Some ds
+    → StopsAt f xs ds → (x : Data) × IsFirstOther f d n x
+first_stop f xs n d ds counted e s =
+    let at = stops_first f xs ds s in (
+      at.0,
+      (
+        ds,
+        e,
+        subst (λ k. IsFirstWithout (λ e. is_some (f e)) ds k at.0) (sym counted) (placed_first (λ e. is_some (f e)) ds (length xs) at.1 at.2, at.3),
+      ),
+    )
+
 pub first_other : {X A : Type 0} (seen : X → A) (form : Form A) (found : Vec X Global) (n : ℕ) (d : Data) → n ≡ length found.items
     → ReadsList seen form (Err (Behind found)) d → (x : Data) × IsFirstOther form.said d n x
 first_other seen form found n d counted h =
-    let at = stops_first form.said (map seen found.items) h.0 h.2 in
-    let same : length (map seen found.items) ≡ n = length-map found.items seen ∙ sym counted in (
-      at.0,
-      (
-        h.0,
-        h.1,
-        subst (λ k. IsFirstWithout (λ e. is_some (form.said e)) h.0 k at.0) same
-            (placed_first (λ e. is_some (form.said e)) h.0 (length (map seen found.items)) at.1 at.2, at.3),
-      ),
-    )
+    first_stop form.said (map seen found.items) n d h.0 (counted ∙ sym (length-map found.items seen)) h.1 h.2

@@ -15,9 +15,9 @@ use Rattle.tsn_codec.specs.declared.refused.Misfit.{Misfit}
 use Rattle.tsn_codec.specs.declared.refused.Misfit.TheVariants as misfit
 use Rattle.tsn_codec.specs.declared.refused.Refused.{Refused}
 use Rattle.tsn_codec.specs.declared.refused.Refused.TheVariants.{NotJson, WrongShape, NumberTooLarge, Memory}
-use Rattle.tsn_codec.specs.Matter.{IsWhy, member_names, names_in, at, IsOffsetsMisfit, IsValuesMisfit, IsPlanMisfit, HasJust, plan_keys, IsRead, tree_keys, IsNodesMisfit, IsTreeMisfit, argument_keys, IsOfArgument, IsFirstOther, IsOfStep, IsStepsMisfit, IsArgumentMisfit}
+use Rattle.tsn_codec.specs.Matter.{IsWhy, member_names, names_in, at, IsOffsetsMisfit, IsValuesMisfit, IsPlanMisfit, HasJust, plan_keys, IsRead, tree_keys, IsNodesMisfit, IsTreeMisfit, argument_keys, IsOfArgument, IsStepsMisfit, IsArgumentMisfit}
 use Rattle.tsn_cert.specs.Cert.{format_of}
-use Rattle.tsn_cert.specs.Argument.{goal_of, step_in}
+use Rattle.tsn_cert.specs.Argument.{goal_of}
 use Rattle.tsn_cert.specs.declared.cert.Format.{Format}
 
 pub none_of : {A : Type 0} (o : Option A) → is_some o ≡ false → o ≡ None
@@ -37,7 +37,7 @@ pub mapped_twice : {A B C : Type 0} (f : B → C) (g : A → B) (o : Option A) �
 mapped_twice f g None = refl
 mapped_twice f g (Some x) = refl
 
-member_names-view : (es : List (String Global × Value)) → member_names (members_view es) ≡ map string_bytes (map (λ e. e.0) es)
+pub member_names-view : (es : List (String Global × Value)) → member_names (members_view es) ≡ map string_bytes (map (λ e. e.0) es)
 member_names-view [] = refl
 member_names-view (e ∷ es) = ap (λ names. string_bytes e.0 ∷ names) (member_names-view es)
 
@@ -113,20 +113,6 @@ steps_up d rest (misfit.NoOffset n) h = absurd h.3
 steps_up d rest (misfit.NoNode n format) h = absurd h.3
 steps_up d rest (misfit.NoStep n) h = (rest.0, rest.1, rest.2, rest.3, h)
 steps_up d rest (misfit.NoPart n it) h = (rest.0, rest.1, rest.2, rest.3, h)
-
-pub step_up : (v : Data) (number : ℕ) (step : Data) → IsFirstOther step_in v number step → (m : Misfit) → IsOfStep number m → IsStepsMisfit v m
-step_up v number step first misfit.NoObject h = absurd h
-step_up v number step first misfit.OtherFormat h = absurd h
-step_up v number step first (misfit.Missing k) h = absurd h
-step_up v number step first (misfit.Unknown name) h = absurd h
-step_up v number step first misfit.OneNull h = absurd h
-step_up v number step first misfit.OtherGoal h = absurd h
-step_up v number step first (misfit.NoNumber k) h = absurd h
-step_up v number step first (misfit.NoArray k) h = absurd h
-step_up v number step first (misfit.NoOffset n) h = absurd h
-step_up v number step first (misfit.NoNode n format) h = absurd h
-step_up v number step first (misfit.NoStep n) h = (number, step, first, h)
-step_up v number step first (misfit.NoPart n it) h = (number, step, first, h)
 
 -- ---- of values at the keys of an object
 

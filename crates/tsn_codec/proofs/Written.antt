@@ -1,5 +1,5 @@
 -- Files in written form whose list is of another form are no certificates.
-use Rattle.std.proofs.Common.{◌≡◌, ◌≤◌, ℕ, List, [], ◌∷◌, length, map, Bool, true, false, not, Option, Some, None, codes, Err, refl, sym, ap, ap₂, ◌∙◌, subst, lit≤, inl, inr}
+use Rattle.std.proofs.Common.{◌≡◌, ◌≤◌, ℕ, List, [], ◌∷◌, map, Bool, true, false, not, Option, Some, None, codes, Err, refl, sym, ap, ap₂, ◌∙◌, subst, lit≤, inl, inr}
 use Rattle.std.specs.Prelude.{option_and_then, option_map, is_some, ◌==◌}
 use Rattle.std.specs.List.{position_or_len}
 use Rattle.json.specs.Token.{Token, begin_object}
@@ -12,7 +12,7 @@ use Rattle.tsn_cert.specs.Form.{Form, number}
 use Rattle.tsn_cert.specs.Says.{Says, value_read}
 use Rattle.tsn_cert.specs.Cert.{format_form, format_numbered, node_form, cert_of, format_of, nodes_of}
 use Rattle.tsn_cert.specs.Node.{tree_node}
-use Rattle.tsn_cert.specs.Argument.{goal_form, step_form, step_in, argument_of, steps_in, goal_of, argument_format}
+use Rattle.tsn_cert.specs.Argument.{goal_form, steps_form, argument_of, steps_in, goal_of, argument_format}
 use Rattle.tsn_cert.specs.declared.cert.Format.{Format}
 use Rattle.tsn_cert.specs.declared.argument.Goal.{Goal}
 use Rattle.tsn_cert.specs.Json.{when, whole_number, value_of}
@@ -22,18 +22,17 @@ use Rattle.tsn_cert.specs.declared.fault.FileFault.TheVariants.{WrongShape}
 use Rattle.tsn_cert.proofs.Says.{number_says, said_spelled}
 use Rattle.tsn_cert.proofs.SpelledLemmas.{converted_some}
 use Rattle.tsn_codec.specs.CertSays.{format_says, node_element}
-use Rattle.tsn_cert.proofs.ArgumentSays.{goal_says}
-use Rattle.tsn_codec.specs.ArgumentSays.{step_element}
-use Rattle.tsn_codec.specs.Written.{ArePlain, HasAs, HasAt, BeginsTree, BeginsArgument, EndsWithTarget, StopsNodes, StopsSteps, IsNoCertificate}
+use Rattle.tsn_cert.proofs.ArgumentSays.{goal_says, steps_says}
+use Rattle.tsn_codec.specs.Written.{ArePlain, HasAs, HasAt, BeginsTree, BeginsArgument, EndsWithTarget, StopsNodes, ArgumentStops, IsNoCertificate}
 use Rattle.tsn_codec.specs.declared.refused.Misfit.{Misfit}
 use Rattle.tsn_codec.specs.declared.refused.Misfit.TheVariants as misfit
-use Rattle.tsn_codec.specs.Matter.{is_of, IsFirstOther, IsTreeMisfit, IsMisfit}
-use Rattle.tsn_codec.proofs.Firsts.{placed_first}
+use Rattle.tsn_codec.specs.Matter.{is_of, IsTreeMisfit, IsMisfit}
 use Rattle.tsn_codec.proofs.Nodes.{stops_nodes, no_nodes}
-use Rattle.tsn_codec.proofs.Misfits.{steps_up, step_up}
+use Rattle.tsn_codec.proofs.Misfits.{steps_up}
+use Rattle.tsn_codec.proofs.Steps.{steps_misfit, steps_none}
 use Rattle.tsn_codec.proofs.Objects.{put_all, object_spelled, cert_at, argument_at}
 use Rattle.tsn_codec.proofs.Pairs.{both_same}
-use Rattle.tsn_codec.proofs.Lists.{stops_value, stops_said, stops_first}
+use Rattle.tsn_codec.proofs.Lists.{stops_value, stops_said, says_of, says_none}
 use Rattle.tsn_codec.proofs.Plain.{plain_skipped}
 
 -- ---- one place
@@ -163,12 +162,12 @@ tree_refused text m plain h other =
     )
 
 -- an argument's file whose steps are of another form
-pub argument_refused : (text : List ℕ) (m : Misfit) → ArePlain (tokens text) → StopsSteps (tokens text) m
+pub argument_refused : (text : List ℕ) (m : Misfit) → ArePlain (tokens text) → ArgumentStops (tokens text) m
     → (ts : List Token) × BeginsArgument (tokens text) ts × EndsWithTarget ts → IsNoCertificate text m
 unfolding as_at member_at argument_same
 argument_refused text m plain h other =
-    let b : BeginsArgument (tokens text) h.0 = h.3 in
-    let same : other.0 ≡ h.0 = argument_same (tokens text) other.0 h.0 other.1 h.3 in
+    let b : BeginsArgument (tokens text) h.0 = h.1 in
+    let same : other.0 ≡ h.0 = argument_same (tokens text) other.0 h.0 other.1 h.1 in
     let e : EndsWithTarget h.0 = subst EndsWithTarget same other.2 in
     let inner : ArePlain b.0 = subst ArePlain b.3 plain in
     let f = member_at 0 (codes "format") number number_says (lit≤ tt) b.0 b.1 (as_at (codes "format") number argument_format b.0 b.1 b.4) inner in
@@ -179,16 +178,14 @@ argument_refused text m plain h other =
     let members = (codes "format", f.1) ∷ (codes "goal", g.1) ∷ (codes "steps", s.0) ∷ (codes "target", t.1) ∷ [] in
     let spelled = object_spelled 126 (tokens text) b.0 members [] b.3
     (f.0, b.1, f.2, f.3, (g.0, b.2, g.2, g.3, (h.0, e.0, b.6, s.1, (t.0, e.1, t.2, t.3, e.4)))) in
-    let stopped = stops_value 8 step_form step_element 126 (lit≤ tt) h.2 h.0 h.1 s.0 e.0 s.1 h.4 h.5 in
-    let at = stops_first step_form.said h.2 stopped.0 stopped.2 in
-    let first : IsFirstOther step_in s.0 (length h.2) at.0 =
-    (stopped.0, stopped.1, (placed_first (λ e. is_some (step_in e)) stopped.0 (length h.2) at.1 at.2, at.3)) in
+    let why = steps_misfit 126 (lit≤ tt) m h.0 s.0 e.0 s.1 h.2 in
+    let none = says_none (steps_in s.0) e.0 (says_of 6 steps_form steps_says 126 (lit≤ tt) h.0 s.0 e.0 s.1 ∙ steps_none m h.0 h.2) in
     let d = object (put_all members no_members) in (
       d,
       read_spelled text d spelled,
       no_cert f.1 g.1 s.0 t.1,
-      argument_none f.1 g.1 s.0 t.1 (stops_said step_form h.2 s.0 stopped.0 stopped.1 stopped.2),
-      inl (f.5, steps_up d (f.5, (refl, refl), ap is_some g.5, ap is_some t.5) m (step_up s.0 (length h.2) at.0 first m h.6)),
+      argument_none f.1 g.1 s.0 t.1 none,
+      inl (f.5, steps_up d (f.5, (refl, refl), ap is_some g.5, ap is_some t.5) m why),
     )
 
 pub no_certificate : (text bytes : List ℕ) (m : Misfit) → read text ≡ value_of bytes → IsNoCertificate text m

@@ -2,6 +2,7 @@ pub mod Takes
 pub mod Told
 pub mod Lists
 pub mod Places
+pub mod Steps
 pub mod Written
 pub mod PlanSays
 pub mod CertSays

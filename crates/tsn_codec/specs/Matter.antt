@@ -5,7 +5,7 @@
 --     IsPlanMisfit, IsTreeMisfit, IsArgumentMisfit      why a value is none of these
 --     IsMisfit                                          why it is no certificate of either kind
 --     IsToldOfPlan, IsToldOfCertificate                 what is told of a file that is refused is so
-use Rattle.std.specs.Prelude.{◌≡◌, ◌≢◌, ◌≤◌, ◌<◌, ◌⊎◌, ℕ, pos, Bool, true, false, not, nat_le, List, [], ◌∷◌, length, Option, Some, None, MatchOption, is_some, is_none, option_map, unwrap_or, position, slice_get, find, string_bytes, ⊤}
+use Rattle.std.specs.Prelude.{◌≡◌, ◌≢◌, ◌≤◌, ◌<◌, ◌⊎◌, ℕ, pos, Bool, true, false, not, nat_le, ◌&&◌, List, [], ◌∷◌, length, Option, Some, None, MatchOption, is_some, is_none, option_map, unwrap_or, position, slice_get, find, string_bytes, ⊤}
 use Rattle.std.specs.List.{list_all, list_any}
 use Rattle.std.specs.Ordering.{int_eq}
 use Rattle.std.specs.Str.{bytes_eq}
@@ -15,8 +15,8 @@ use Rattle.tsn_model.specs.Certificate.{Node, split_node}
 use Rattle.tsn_cert.specs.Json.{◌>>=◌, when, value_of, whole_number, elements, is_object_of, is_null}
 use Rattle.tsn_cert.specs.Plan.{max_time, plan_of}
 use Rattle.tsn_cert.specs.Cert.{node_fits, node_of, is_tie, format_of}
-use Rattle.tsn_cert.specs.Fact.{fact_fits}
-use Rattle.tsn_cert.specs.Move.{move_fits}
+use Rattle.tsn_cert.specs.Fact.{fact_fits, fact_in, clause_in}
+use Rattle.tsn_cert.specs.Move.{move_fits, move_in}
 use Rattle.tsn_cert.specs.Argument.{step_fits, step_in, goal_of, argument_format}
 use Rattle.tsn_cert.specs.Certificate.{certificate_of}
 use Rattle.tsn_cert.specs.declared.plan.Plan.{Plan}
@@ -216,16 +216,37 @@ IsTreeMisfit d m =
 abbrev pub IsOfArgument : Data → Type 0
 IsOfArgument d = whole_number (at key.Format d) ≡ Some argument_format
 
--- what is told is of the step of this number
-abbrev pub IsOfStep : ℕ → Misfit → Type 0
-IsOfStep number (misfit.NoStep told) = told ≡ number
-IsOfStep number (misfit.NoPart told it) = told ≡ number
-IsOfStep number _ = ⊥
+-- the element of this number of an array
+abbrev pub element_at : ℕ → Data → Option Data
+element_at number d = do
+  ds ← elements d
+  slice_get ds number
 
--- Why a value is no list of steps. Whether it is the step that is no array of two arrays, or a part of it of another form, and which, isn't said.
+abbrev pub are_lists : List Data → Bool
+are_lists (clause ∷ moves ∷ []) = is_some (elements clause) && is_some (elements moves)
+are_lists _ = false
+
+-- an array of two arrays
+abbrev pub is_pair : Data → Bool
+is_pair d = unwrap_or (option_map are_lists (elements d)) false
+
+-- the first fact that isn't of the form, or, behind facts that are, the first move
+abbrev pub IsPartMisfit : Data → Part → Type 0
+IsPartMisfit step (part.Fact number) = (clause x : Data) × (element_at 0 step ≡ Some clause) × IsFirstOther fact_in clause number x
+IsPartMisfit step (part.Move number) =
+    (clause moves x : Data) × (element_at 0 step ≡ Some clause) × (element_at 1 step ≡ Some moves) × IsRead (clause_in clause)
+    × IsFirstOther move_in moves number x
+
+-- why the value is no step, of which this is the number
+abbrev pub IsStepMisfit : ℕ → Data → Misfit → Type 0
+IsStepMisfit number step (misfit.NoStep told) = (told ≡ number) × (is_pair step ≡ false)
+IsStepMisfit number step (misfit.NoPart told it) = (told ≡ number) × IsPartMisfit step it
+IsStepMisfit number step _ = ⊥
+
+-- why a value is no list of steps
 abbrev pub IsStepsMisfit : Data → Misfit → Type 0
 IsStepsMisfit v (misfit.NoArray key.Steps) = elements v ≡ None
-IsStepsMisfit v m = (number : ℕ) × (step : Data) × IsFirstOther step_in v number step × IsOfStep number m
+IsStepsMisfit v m = (number : ℕ) × (step : Data) × IsFirstOther step_in v number step × IsStepMisfit number step m
 
 -- why a value is no argument
 abbrev pub IsArgumentMisfit : Data → Misfit → Type 0

@@ -1,5 +1,5 @@
 -- Files whose keys stand in the order in which they are written.
-use Rattle.std.specs.Prelude.{◌≡◌, ℕ, ◌∷◌, [], List, length, map, Bool, true, not, Some, None, is_some, codes}
+use Rattle.std.specs.Prelude.{◌≡◌, ℕ, ◌∷◌, [], List, map, Bool, true, not, Some, None, is_some, codes}
 use Rattle.std.specs.List.{list_all, position_or_len}
 use Rattle.json.specs.Token.{Token, begin_object}
 use Rattle.json.specs.Token as token
@@ -9,14 +9,14 @@ use Rattle.serde_json.specs.Read.{number_of, read}
 use Rattle.tsn_cert.specs.Form.{Form, number, after_begin_array}
 use Rattle.tsn_cert.specs.Cert.{format_form, node_form, cert_of}
 use Rattle.tsn_cert.specs.Node.{tree_node}
-use Rattle.tsn_cert.specs.Argument.{goal_form, step_form, argument_format, argument_of}
+use Rattle.tsn_cert.specs.Argument.{goal_form, argument_format, argument_of}
 use Rattle.tsn_cert.specs.declared.cert.Format.{Format}
 use Rattle.tsn_cert.specs.declared.cert.Node.{Node}
-use Rattle.tsn_cert.specs.declared.step.Step.{Step}
 use Rattle.tsn_codec.specs.declared.refused.Misfit.{Misfit}
 use Rattle.tsn_codec.specs.declared.refused.Misfit.TheVariants as misfit
 use Rattle.tsn_codec.specs.Lists.{Stops}
-use Rattle.tsn_codec.specs.Matter.{is_of, IsOfStep, IsMisfit}
+use Rattle.tsn_codec.specs.Matter.{is_of, IsMisfit}
+use Rattle.tsn_codec.specs.Steps.{StopsSteps}
 
 -- ---- numbers
 
@@ -71,11 +71,9 @@ StopsNodes ts m =
     (format : Format) × (rest inner : List Token) × (nodes : List Node) × BeginsTree format ts rest × (after_begin_array rest ≡ Some inner)
     × Stops node_form.taken (map tree_node nodes) inner × (m ≡ misfit.NoNode (position_or_len (λ node. not (is_of format (tree_node node))) nodes) format)
 
--- the steps of an argument stop at one of another form, of which is told
-abbrev pub StopsSteps : List Token → Misfit → Type 0
-StopsSteps ts m =
-    (rest inner : List Token) × (steps : List Step) × BeginsArgument ts rest × (after_begin_array rest ≡ Some inner)
-    × Stops step_form.taken steps inner × IsOfStep (length steps) m
+-- the steps of an argument stop at something of another form, which is told
+abbrev pub ArgumentStops : List Token → Misfit → Type 0
+ArgumentStops ts m = (rest : List Token) × BeginsArgument ts rest × StopsSteps m rest
 
 -- the text is the value of no certificate, and this is why
 abbrev pub IsNoCertificate : List ℕ → Misfit → Type 0

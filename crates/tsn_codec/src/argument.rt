@@ -6,9 +6,9 @@ ghost use Rattle.serde_json.specs.Data.{depth};
 ghost use Rattle.serde_json.specs.Read.{max_depth};
 ghost use Rattle.serde_json.specs.View.{view};
 ghost use Rattle.tsn_cert.specs.Fault.{Gives};
-ghost use Rattle.tsn_codec.specs.Matter.{IsArgumentExcess, IsWhy, IsOfStep, IsStepsMisfit, IsArgumentMisfit};
+ghost use Rattle.tsn_codec.specs.Matter.{IsArgumentExcess, IsWhy, IsStepsMisfit, IsArgumentMisfit};
 ghost use Rattle.tsn_codec.specs.Told.{Finds};
-ghost use Rattle.tsn_codec.specs.Written.{ArePlain, BeginsArgument, EndsWithTarget, StopsSteps, IsNoCertificate};
+ghost use Rattle.tsn_codec.specs.Written.{ArePlain, BeginsArgument, EndsWithTarget, ArgumentStops, IsNoCertificate};
 ghost use Rattle.tsn_cert.specs.Argument.{goal_of, steps_in, steps_form, argument_of, argument_value, argument_fits, argument_in, argument_text};
 ghost use Rattle.tsn_cert.specs.ArgumentLaws.{IsArgumentInGrammar};
 
@@ -21,7 +21,7 @@ pub mod text;
 
 use crate::document;
 use crate::file::{self, File};
-use crate::list::{Unlisted, array_of, list_in, list_or_why};
+use crate::list::array_of;
 use crate::refused::{Excess, Key, Misfit, Refused};
 use crate::tokens::{Tokens, Unread};
 use json::Scratch;
@@ -90,7 +90,7 @@ impl File for Argument {
 }
 
 // The argument that the value is.
-#[tactic(auto, using(crate::proofs::JsonLemmas::get_depth))]
+#[tactic(auto, using(crate::proofs::JsonLemmas::get_depth, crate::proofs::Counted::argument_apart))]
 fn argument_from(alloc: Global, value: &Value) -> Result<Argument, Refused>
     requires { depth (view value.now) ≤ max_depth }
     ensures argument { Finds (λ argument. argument) result (argument_of (view value.now)) }
@@ -130,33 +130,15 @@ fn goal_from(value: &Value) -> Result<Goal, Refused>
 }
 
 // The steps that the value is.
-#[tactic(auto, using(crate::proofs::Elements::map_same))]
 fn steps_from(alloc: Global, value: &Value) -> Result<Steps, Refused>
     requires { depth (view value.now) ≤ max_depth }
     ensures steps { Finds (λ steps. steps) result (steps_in (view value.now)) }
     ensures told { IfErr result (IsWhy (IsStepsMisfit (view value.now))) }
 {
-    match list_in::<Step>(alloc, value) {
-        Ok(steps) => Ok(Steps::of(steps)),
-        Err(Unlisted::NoArray) => Err(Refused::WrongShape(Misfit::NoArray(Key::Steps))),
-        Err(Unlisted::Behind(steps)) => {
-            Err(Refused::WrongShape(misfit_in_value(alloc, value, steps.len())?))
-        }
-        Err(Unlisted::Memory) => Err(Refused::Memory),
-    }
-}
-
-// What isn't of the form of the step of this number, in the value of all.
-fn misfit_in_value(alloc: Global, steps: &Value, number: usize) -> Result<Misfit, NoMemory>
-    ensures { IfOk result (IsOfStep number) }
-{
-    match steps.get(number) {
-        Some(step) => {
-            let text = step.to_string(alloc)?;
-            step::misfit(alloc, text.as_str(), number, true)
-        }
-        None => Ok(Misfit::NoStep(number)),
-    }
+    let text = value.to_string(alloc)?;
+    let mut scratch = Scratch::new(alloc);
+    let mut tokens = Tokens::of(alloc, text.as_str(), &mut scratch)?;
+    step::steps_or_why(&mut tokens)
 }
 
 /// What isn't of the form of a file whose keys stand in the order in which they are written, where that is one of its steps; None where
@@ -174,16 +156,16 @@ pub(crate) fn misfit_of_written(alloc: Global, text: &str) -> Result<Option<Misf
 }
 
 fn misfit_of_steps(alloc: Global, text: &str) -> Result<Option<Misfit>, NoMemory>
-    ensures { IfOk result (λ misfit. IfSome misfit (StopsSteps (tokens text.now))) }
+    ensures { IfOk result (λ misfit. IfSome misfit (ArgumentStops (tokens text.now))) }
 {
     let mut scratch = Scratch::new(alloc);
     let mut tokens = Tokens::of(alloc, text, &mut scratch)?;
     let Ok(()) = begin(&mut tokens) else {
         return Ok(None);
     };
-    match list_or_why::<Step>(&mut tokens) {
-        Err(Unlisted::Behind(steps)) => { Ok(Some(step::misfit(alloc, text, steps.len(), false)?)) }
-        Err(Unlisted::Memory) => Err(NoMemory),
+    match step::steps_or_why(&mut tokens) {
+        Err(Refused::WrongShape(misfit)) => Ok(Some(misfit)),
+        Err(Refused::Memory) => Err(NoMemory),
         _ => Ok(None),
     }
 }

@@ -109,7 +109,8 @@ fn from_any(alloc: Global, bytes: &[u8]) -> Result<Certificate, Refused>
             let argument = argument_or(alloc, &value, misfit)?;
             Ok(Certificate::Argument(file::limited(argument)?))
         }
-        Err(_) => Err(Refused::Memory),
+        Err(Refused::Memory) => Err(Refused::Memory),
+        Err(_) => unreachable!(),
     }
 }
 

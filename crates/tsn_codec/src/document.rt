@@ -1,5 +1,5 @@
 //! The parts that the values of files are read from and made of.
-ghost use Rattle.std.specs.Prelude.{◌≡◌, ◌≤◌, map, not, find, option_map, IfErr, false, Some, None, IfOk, MatchResult, IsOkAnd, string_bytes, [], ◌∷◌, ◌++◌};
+ghost use Rattle.std.specs.Prelude.{◌≡◌, ◌≤◌, map, length, not, IsSome, find, option_map, IfErr, false, Some, None, IfOk, MatchResult, IsOkAnd, string_bytes, [], ◌∷◌, ◌++◌};
 ghost use Rattle.serde_json.specs.Data.{depth, string};
 ghost use Rattle.serde_json.specs.Find.{get};
 ghost use Rattle.serde_json.specs.Read.{max_depth};
@@ -8,8 +8,12 @@ ghost use Rattle.serde_json.specs.Written.{has_float};
 ghost use Rattle.tsn_cert.specs.Json.{value_of, whole_number, is_object_of, number_value, array_value, file_text};
 ghost use Rattle.tsn_cert.specs.Fault.{named};
 ghost use Rattle.tsn_codec.specs.Told.{key_name, Tells, Finds};
-ghost use Rattle.tsn_codec.specs.Matter.{IsWhy, IsUnknown, other_name};
-ghost use Rattle.std.specs.List.{list_any};
+ghost use Rattle.tsn_codec.specs.Matter.{IsWhy, IsUnknown, IsObject, absent_key, other_name};
+ghost use Rattle.std.specs.List.{list_any, IsDistinct};
+ghost use Rattle.std.specs.List.Sorted.{IsStrictlySortedBy};
+ghost use Rattle.std.specs.Ordering.{nat_cmp, eq_by_cmp};
+ghost use Rattle.std.specs.Cmp.Lexicographic.{slice_cmp};
+ghost use Rattle.std.specs.String.{string_cmp};
 ghost use Rattle.std.specs.Str.{bytes_eq};
 ghost use Rattle.std.specs.BTreeMap.{keys as keys_of};
 
@@ -57,7 +61,11 @@ pub fn whole_number_at(value: &Value, key: Key) -> Result<u64, Refused>
 
 // The first of an object's keys that is none of these.
 fn other_name<'a>(value: &'a Value, keys: &[Key]) -> Option<&'a String>
-    ensures { option_map (λ name. string_bytes name.now) result ≡ other_name keys.now (view value.now) }
+    ensures found { option_map (λ name. string_bytes name.now) result ≡ other_name keys.now (view value.now) }
+    // There is one, where the object has all of these keys, each once, and is of another count of members.
+    ensures counted { IsDistinct (eq_by_cmp (slice_cmp nat_cmp)) (map key_name keys.now)
+        → absent_key keys.now (view value.now) ≡ None → IsObject (view value.now)
+        → is_object_of (length keys.now) (view value.now) ≡ false → IsSome result }
 {
     match value.as_object() {
         Some(members) => key_outside(members, keys),
@@ -66,8 +74,9 @@ fn other_name<'a>(value: &'a Value, keys: &[Key]) -> Option<&'a String>
 }
 
 fn key_outside<'a>(members: &'a Map<String, Value>, keys: &[Key]) -> Option<&'a String>
-    ensures { option_map (λ name. name.now) result
+    ensures found { option_map (λ name. name.now) result
         ≡ find (λ name. not (list_any (λ k. bytes_eq (key_name k) (string_bytes name)) keys.now)) (keys_of members.now) }
+    ensures sorted { IsStrictlySortedBy string_cmp (keys_of members.now) }
 {
     members.keys().find(|name| !is_among(name.as_str(), keys))
 }
@@ -80,15 +89,18 @@ fn is_among(name: &str, keys: &[Key]) -> bool
 
 /// Why an object that has all of these keys doesn't have them alone.
 pub fn unknown_key(value: &Value, keys: &[Key]) -> Refused
+    requires distinct { IsDistinct (eq_by_cmp (slice_cmp nat_cmp)) (map key_name keys.now) }
+    requires all { absent_key keys.now (view value.now) ≡ None }
+    requires object { IsObject (view value.now) }
+    requires count { is_object_of (length keys.now) (view value.now) ≡ false }
     ensures { IsWhy (IsUnknown keys.now (view value.now)) result }
 {
-    match other_name(value, keys) {
-        Some(name) => match name.clone() {
-            Ok(name) => Refused::WrongShape(Misfit::Unknown(name)),
-            Err(_) => Refused::Memory,
-        },
-        // Never met, which isn't shown: an object has no key twice, so that one of another count of members has another key.
-        None => Refused::Memory,
+    let Some(name) = other_name(value, keys) else {
+        unreachable!()
+    };
+    match name.clone() {
+        Ok(name) => Refused::WrongShape(Misfit::Unknown(name)),
+        Err(_) => Refused::Memory,
     }
 }
 

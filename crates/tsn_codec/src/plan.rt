@@ -96,7 +96,7 @@ fn value_of(alloc: Global, plan: &Plan) -> Result<Value, AllocError>
 }
 
 // The plan that the value is.
-#[tactic(auto, using(crate::proofs::JsonLemmas::get_depth))]
+#[tactic(auto, using(crate::proofs::JsonLemmas::get_depth, crate::proofs::Counted::plan_apart))]
 fn plan_from(alloc: Global, value: &Value) -> Result<Plan, Refused>
     requires { depth (view value.now) ≤ max_depth }
     ensures plan { Finds (λ plan. plan) result (plan_of (view value.now)) }

@@ -3,7 +3,7 @@ ghost use Rattle.std.specs.Prelude.{◌≡◌};
 ghost use Rattle.tsn_codec.specs.Told.{key_name, code_of};
 
 use serde_json::Error;
-use std::alloc::AllocError;
+use std::alloc::{AllocError, AllocFailed};
 use tsn_cert::{FileFault, Format};
 use tsn_model::NoMemory;
 
@@ -43,27 +43,27 @@ pub enum Part {
     Move(usize),
 }
 
-/// What isn't of the form of the file. Where more than one thing isn't, the first one in this order is told; of nodes, steps and offsets
-/// the first one in the file. That it is so is proved, but for which part of a step it is.
+/// What isn't of the form of the file. Where more than one thing isn't, the first one in this order is told; of nodes, steps, their parts
+/// and offsets the first one in the file.
 #[derive(Drop)]
 pub enum Misfit {
     /// The value is no object.
     NoObject,
-    /// The format of a certificate is none of 1, 2 and 3.
+    /// The format of a certificate is none of 1, 2 and 3, or of a file that is to be of one kind, none of that kind.
     OtherFormat,
     /// The object lacks this key.
     Missing(Key),
-    /// It has this key, which none of its files has.
+    /// It has this key, which isn't one of its form.
     Unknown(String),
     /// One of the flowspan and the offsets is null, and the other isn't.
     OneNull,
     /// The goal of an argument is none of its words.
     OtherGoal,
-    /// At this key stands no whole number.
+    /// At this key stands no number that is a `u64`, in digits alone.
     NoNumber(Key),
     /// At this key stands no array.
     NoArray(Key),
-    /// The offset of this number is no whole number.
+    /// The offset of this number is none either.
     NoOffset(usize),
     /// The node of this number has none of the forms of the format.
     NoNode(usize, Format),
@@ -130,6 +130,17 @@ impl From<AllocError> for Refused {
     ghost from_gives = { λ _ e. e ≡ Memory };
 
     fn from(_refused: AllocError) -> Refused {
+        Refused::Memory
+    }
+}
+
+impl<T: Drop> From<AllocFailed<T>> for Refused {
+    ghost use Rattle.std.specs.Prelude.{◌≡◌};
+    ghost use Rattle.tsn_codec.specs.declared.refused.Refused.TheVariants.{Memory};
+
+    ghost from_gives = { λ _ e. e ≡ Memory };
+
+    fn from(_refused: AllocFailed<T>) -> Refused {
         Refused::Memory
     }
 }

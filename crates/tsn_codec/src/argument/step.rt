@@ -1,21 +1,16 @@
 //! Steps of an argument, read and printed; which part of one isn't of the form.
-ghost use Rattle.std.specs.Prelude.{IfOk};
-ghost use Rattle.tsn_codec.specs.Matter.{IsOfStep};
+ghost use Rattle.std.specs.Prelude.{◌≡◌};
 ghost use Rattle.tsn_cert.specs.Argument.{step_form, step_value, steps_form};
 ghost use Rattle.tsn_codec.specs.ArgumentSays.{step_element};
+ghost use Rattle.tsn_codec.specs.Steps.{TakesStep, MovesStop, moves_end, PartsStop, parts_end, StepStops, TakesSteps, TakesArray, unread_of};
 ghost use Rattle.tsn_codec.specs.Takes.{Takes};
 
-use crate::list::{Element, Unlisted, array_of, list, list_or_why};
-use crate::refused::{Misfit, Part};
+use crate::list::{Element, Unlisted, array_of, list_or_why};
+use crate::refused::{Key, Misfit, Part, Refused};
 use crate::tokens::{Tokens, Unread};
-use json::Scratch;
 use serde_json::{Value, json};
 use std::alloc::{AllocError, Global};
 use tsn_cert::{Clause, Fact, Move, Moves, Step, Steps};
-use tsn_model::NoMemory;
-
-// How deep the values of a step nest at most.
-const LEVELS: usize = 126;
 
 impl Element for Step {
     ghost use Rattle.tsn_cert.specs.declared.step.Step.{Step};
@@ -26,16 +21,11 @@ impl Element for Step {
 
     ghost form = { step_form };
 
-    #[tactic(auto, using(crate::proofs::Elements::map_same))]
     fn take(tokens: &mut Tokens<'_>) -> Result<Step, Unread> {
-        tokens.open_array()?;
-        let clause = list::<Fact>(tokens)?;
-        let moves = list::<Move>(tokens)?;
-        tokens.close_array()?;
-        Ok(Step {
-            clause: Clause::of(clause),
-            moves: Moves::of(moves),
-        })
+        match step_or_why(tokens, 0) {
+            Ok(step) => Ok(step),
+            Err(why) => Err(unread(&why)),
+        }
     }
 
     ghost written = { step_value };
@@ -51,73 +41,96 @@ impl Element for Step {
 }
 
 /// The steps of an argument.
-#[tactic(auto, using(crate::proofs::Elements::map_same))]
 pub(super) fn steps(tokens: &mut Tokens<'_>) -> Result<Steps, Unread>
     ensures { Takes (λ steps. steps) result (steps_form.taken tokens.old) tokens.new }
 {
-    Ok(Steps::of(list::<Step>(tokens)?))
+    match steps_or_why(tokens) {
+        Ok(steps) => Ok(steps),
+        Err(why) => Err(unread(&why)),
+    }
 }
 
-/// What isn't of the form of the step of this number, of the text of that step alone or else of a file in written form.
-pub(super) fn misfit(
-    alloc: Global,
-    text: &str,
-    number: usize,
-    alone: bool,
-) -> Result<Misfit, NoMemory>
-    ensures { IfOk result (IsOfStep number) }
+fn unread(why: &Refused) -> Unread
+    ensures { result ≡ unread_of why.now }
 {
-    let none = Misfit::NoStep(number);
-    let behind = if alone { None } else { Some(number) };
-    if !is_pair(alloc, text, behind)? {
-        return Ok(none);
-    }
-    match part(alloc, text, behind)? {
-        Some(part) => Ok(Misfit::NoPart(number, part)),
-        None => Ok(none),
+    match why {
+        Refused::Memory => Unread::Memory,
+        _ => Unread::OtherForm,
     }
 }
 
-// Whether the step is an array of two arrays.
-fn is_pair(alloc: Global, text: &str, behind: Option<usize>) -> Result<bool, NoMemory> {
-    let mut scratch = Scratch::new(alloc);
-    let mut tokens = Tokens::of(alloc, text, &mut scratch)?;
-    Ok(
-        open_step(&mut tokens, behind).is_ok()
-            && tokens.skip_array(LEVELS).is_ok()
-            && tokens.skip_array(LEVELS).is_ok()
-            && tokens.take_end(),
-    )
-}
-
-// The first part that isn't of the form.
-fn part(alloc: Global, text: &str, behind: Option<usize>) -> Result<Option<Part>, NoMemory> {
-    let mut scratch = Scratch::new(alloc);
-    let mut tokens = Tokens::of(alloc, text, &mut scratch)?;
-    if open_step(&mut tokens, behind).is_err() {
-        return Ok(None);
-    }
-    match list_or_why::<Fact>(&mut tokens) {
-        Ok(_) => {}
-        Err(Unlisted::Behind(facts)) => return Ok(Some(Part::Fact(facts.len()))),
-        Err(Unlisted::NoArray) => return Ok(None),
-        Err(Unlisted::Memory) => return Err(NoMemory),
-    }
-    match list_or_why::<Move>(&mut tokens) {
-        Err(Unlisted::Behind(moves)) => Ok(Some(Part::Move(moves.len()))),
-        Err(Unlisted::Memory) => Err(NoMemory),
-        _ => Ok(None),
+/// The steps of an argument, or why there are none.
+#[tactic(auto, using(crate::proofs::Elements::map_same))]
+pub(super) fn steps_or_why(tokens: &mut Tokens<'_>) -> Result<Steps, Refused>
+    ensures { TakesArray result tokens.old tokens.new }
+{
+    match tokens.open_array() {
+        Ok(()) => Ok(Steps::of(steps_inside(tokens)?)),
+        Err(Unread::OtherForm) => Err(Refused::WrongShape(Misfit::NoArray(Key::Steps))),
+        Err(Unread::Memory) => Err(Refused::Memory),
     }
 }
 
-// Passes the bracket that opens the step, behind so many others of its file.
-fn open_step(tokens: &mut Tokens<'_>, behind: Option<usize>) -> Result<(), Unread> {
-    if let Some(others) = behind {
-        super::begin(tokens)?;
-        tokens.open_array()?;
-        for _ in 0..others {
-            tokens.skip_value(LEVELS)?;
+// Those up to the end of their array.
+fn steps_inside(tokens: &mut Tokens<'_>) -> Result<Vec<Step>, Refused>
+    ensures { TakesSteps result tokens.old tokens.new }
+{
+    let mut found = Vec::new(tokens.alloc());
+    'steps: while !tokens.take_end() {
+        match step_or_why(tokens, found.len()) {
+            Ok(step) => found.push(step)?,
+            Err(why) => return Err(why),
         }
     }
-    tokens.open_array()
+    Ok(found)
+}
+
+// The step of this number, or why there is none.
+fn step_or_why(tokens: &mut Tokens<'_>, number: usize) -> Result<Step, Refused>
+    ensures { TakesStep step_form.taken StepStops number result tokens.old tokens.new }
+{
+    match tokens.open_array() {
+        Ok(()) => step_inside(tokens, number),
+        Err(Unread::OtherForm) => Err(Refused::WrongShape(Misfit::NoStep(number))),
+        Err(Unread::Memory) => Err(Refused::Memory),
+    }
+}
+
+// The same behind the bracket that opens it.
+fn step_inside(tokens: &mut Tokens<'_>, number: usize) -> Result<Step, Refused>
+    ensures { TakesStep parts_end PartsStop number result tokens.old tokens.new }
+{
+    match list_or_why::<Fact>(tokens) {
+        Ok(clause) => step_behind(tokens, clause, number),
+        Err(Unlisted::NoArray) => Err(Refused::WrongShape(Misfit::NoStep(number))),
+        Err(Unlisted::Behind(facts)) => {
+            let part = Part::Fact(facts.len());
+            Err(Refused::WrongShape(Misfit::NoPart(number, part)))
+        }
+        Err(Unlisted::Memory) => Err(Refused::Memory),
+    }
+}
+
+// The same behind this clause.
+#[tactic(auto, using(crate::proofs::Elements::map_same))]
+fn step_behind(tokens: &mut Tokens<'_>, clause: Vec<Fact>, number: usize) -> Result<Step, Refused>
+    ensures { TakesStep (moves_end clause.items) MovesStop number result tokens.old tokens.new }
+{
+    let moves = match list_or_why::<Move>(tokens) {
+        Ok(moves) => moves,
+        Err(Unlisted::NoArray) => return Err(Refused::WrongShape(Misfit::NoStep(number))),
+        Err(Unlisted::Behind(moves)) => {
+            let part = Part::Move(moves.len());
+            return Err(Refused::WrongShape(Misfit::NoPart(number, part)));
+        }
+        Err(Unlisted::Memory) => return Err(Refused::Memory),
+    };
+    match tokens.close_array() {
+        Ok(()) => Ok(Step {
+            clause: Clause::of(clause),
+            moves: Moves::of(moves),
+        }),
+        Err(Unread::OtherForm) => Err(Refused::WrongShape(Misfit::NoStep(number))),
+        Err(Unread::Memory) => Err(Refused::Memory),
+    }
 }
