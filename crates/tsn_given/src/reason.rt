@@ -25,7 +25,7 @@ pub fn source_line<S: Opened>(
     match fault {
         Some(ReadFault::TooLong) => too_long_line(alloc, source.name(), source.count()),
         Some(ReadFault::Broken) => failure_line(alloc, DEVICE, source.failure()),
-        _ => None,
+        Some(ReadFault::Memory) | None => None,
     }
 }
 
@@ -37,7 +37,7 @@ pub fn write_line(
 ) -> Option<String> {
     match fault {
         Some(ReadFault::Broken) => failure_line(alloc, DEVICE, failure),
-        _ => None,
+        Some(ReadFault::TooLong | ReadFault::Memory) | None => None,
     }
 }
 
