@@ -1,10 +1,10 @@
 //! Why an argument is refused, in words: what its first fault is, with the names of the problem.
 
-use crate::Reason;
 use crate::claim::{Claim, line_on_plan, push_wrong_target};
 use crate::names::StreamName;
-use crate::wrong::{push_wrong, shown_time};
-use std::alloc::{AllocError, Global};
+use crate::wrong::push_wrong;
+use crate::{Reason, Written};
+use std::alloc::Global;
 use std::fmt::Write;
 use tsn_argue::{ArgumentFault, Open, StepFault};
 use tsn_cert::Goal;
@@ -37,7 +37,7 @@ pub fn line_on_argument(
 }
 
 /// Writes what the goal is, and has to be.
-fn push_wrong_goal(text: &mut String, goal: Goal) -> Result<(), AllocError> {
+fn push_wrong_goal(text: &mut String, goal: Goal) -> Written {
     text.push_str(match goal {
         Goal::None => "goal is \"none\", and has to be \"first\" or \"least\"",
         Goal::First => "goal is \"first\", and has to be \"none\"",
@@ -45,17 +45,12 @@ fn push_wrong_goal(text: &mut String, goal: Goal) -> Result<(), AllocError> {
     })?;
     text.push_str(match goal {
         Goal::None => ", since the plan is a schedule",
-        _ => ", since the plan is that there is no schedule",
+        Goal::First | Goal::Least => ", since the plan is that there is no schedule",
     })
 }
 
 /// Writes what is wrong with a step of this number.
-fn push_step(
-    text: &mut String,
-    problem: &Problem,
-    number: usize,
-    fault: StepFault,
-) -> Result<(), AllocError> {
+fn push_step(text: &mut String, problem: &Problem, number: usize, fault: StepFault) -> Written {
     write!(text, "step {number}")?;
     match fault {
         StepFault::Settled => text.push_str(
@@ -74,19 +69,13 @@ fn push_step(
 }
 
 /// Writes what all steps, so many, leave in question.
-fn push_unfinished(
-    text: &mut String,
-    problem: &Problem,
-    count: usize,
-    open: Open,
-) -> Result<(), AllocError> {
+fn push_unfinished(text: &mut String, problem: &Problem, count: usize, open: Open) -> Written {
     write!(text, "the argument is unfinished after {count} steps: the ")?;
     match open {
-        Open::Any(least) => write!(text, "flowspan may still be {}", shown_time(least)),
+        Open::Any(least) => write!(text, "flowspan may still be {least}"),
         Open::Flowspan { least, planned } => write!(
             text,
-            "flowspan may still be {}, and the plan's is {planned}",
-            shown_time(least)
+            "flowspan may still be {least}, and the plan's is {planned}"
         ),
         Open::Offset {
             stream,
@@ -94,7 +83,6 @@ fn push_unfinished(
             planned,
         } => {
             let stream = StreamName(problem, stream);
-            let least = shown_time(least);
             write!(
                 text,
                 "offset of {stream} may still be {least}, and the plan's is {planned}"

@@ -1,7 +1,7 @@
 //! What a plan claims of a problem, and why it is refused, in words; and the target that it asks of a certificate.
-use crate::Reason;
 use crate::offsets::{Schedule, push_violation};
-use std::alloc::{AllocError, Global};
+use crate::{Reason, Written};
+use std::alloc::Global;
 use std::fmt::Write;
 use tsn_cert::Plan;
 use tsn_check::PlanFault;
@@ -23,11 +23,15 @@ pub struct Claim<'a> {
 /// The line on a plan with this fault.
 pub fn line_on_plan(alloc: Global, claim: Claim<'_>, fault: PlanFault) -> Reason {
     let mut text = line_of(alloc, claim.name).finish()?;
-    match fault {
-        PlanFault::Memory => return Err(NoMemory),
-        PlanFault::NoSchedule => write!(text, "it says that there is no schedule")?,
-        PlanFault::Invalid(violation) => push_invalid(alloc, &mut text, claim, violation)?,
-        PlanFault::Flowspan { stated, wanted } => {
+    match (fault, claim.plan) {
+        (PlanFault::Memory, _) => return Err(NoMemory),
+        (PlanFault::NoSchedule, _) | (PlanFault::Invalid(_), Plan::None) => {
+            write!(text, "it says that there is no schedule")?
+        }
+        (PlanFault::Invalid(violation), Plan::Schedule { offsets, .. }) => {
+            push_invalid(alloc, &mut text, claim.problem, offsets.list(), violation)?
+        }
+        (PlanFault::Flowspan { stated, wanted }, _) => {
             write!(
                 text,
                 "flowspan is {stated}, and that of the offsets is {wanted}"
@@ -41,17 +45,15 @@ pub fn line_on_plan(alloc: Global, claim: Claim<'_>, fault: PlanFault) -> Reason
 fn push_invalid(
     alloc: Global,
     text: &mut String,
-    claim: Claim<'_>,
+    problem: &Problem,
+    offsets: &[u64],
     violation: Violation,
 ) -> Result<(), NoMemory> {
-    let Plan::Schedule { offsets, .. } = claim.plan else {
-        return Ok(());
-    };
-    let timing = claim.problem.timing(alloc)?;
+    let timing = problem.timing(alloc)?;
     let schedule = Schedule {
-        problem: claim.problem,
+        problem,
         timing: &timing,
-        offsets: offsets.list(),
+        offsets,
     };
     text.push_str("no valid schedule: ")?;
     let pushed = push_violation(text, schedule, violation);
@@ -60,12 +62,7 @@ fn push_invalid(
 }
 
 /// Writes what the target is, and has to be.
-pub fn push_wrong_target(
-    text: &mut String,
-    plan: &Plan,
-    stated: u64,
-    wanted: u64,
-) -> Result<(), AllocError> {
+pub fn push_wrong_target(text: &mut String, plan: &Plan, stated: u64, wanted: u64) -> Written {
     let whose = match plan {
         Plan::Schedule { .. } => "the flowspan of the plan",
         Plan::None => "one more than the cycle, since the plan is that there is no schedule",

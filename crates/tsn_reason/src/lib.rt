@@ -19,18 +19,13 @@ pub use claim::{Claim, line_on_plan};
 pub use inputs::{NetworkRead, PlanRead, read_network, read_plan};
 pub use offsets::{Schedule, offsets_line};
 pub use refusals::{cert_rejection, file_refusal, network_line, refusal, rejection};
+use std::alloc::AllocError;
 pub use tree::line_on_tree;
 use tsn_model::NoMemory;
-
-/// A file that was read.
-#[derive(Clone, Copy)]
-pub struct File<'a> {
-    /// What it is called.
-    pub name: &'a str,
-    /// All its bytes.
-    pub bytes: &'a [u8],
-}
 
 /// The line, from the name of the file at fault on and without its end; None where nothing is refused. The error says that
 /// there was no memory.
 pub type Reason = Result<Option<String>, NoMemory>;
+
+/// What writing words comes to. The error says that there was no memory.
+pub(crate) type Written = Result<(), AllocError>;

@@ -2,9 +2,9 @@
 ghost use Rattle.std.specs.Prelude.{◌<◌};
 ghost use Rattle.tsn_model.specs.Network.{stream_count};
 
-use crate::Reason;
 use crate::names::{Later, LinkName, StreamName};
-use std::alloc::{AllocError, Global};
+use crate::{Reason, Written};
+use std::alloc::Global;
 use std::fmt::Write;
 use tsn_model::{Triple, Violation};
 use tsn_text::line_of;
@@ -44,11 +44,7 @@ pub fn offsets_line(
 }
 
 /// Writes what the violation is.
-pub fn push_violation(
-    text: &mut String,
-    schedule: Schedule<'_>,
-    violation: Violation,
-) -> Result<(), AllocError> {
+pub fn push_violation(text: &mut String, schedule: Schedule<'_>, violation: Violation) -> Written {
     match violation {
         Violation::WrongCount => push_count(text, schedule),
         Violation::Overlap(triple) => push_overlap(text, schedule.problem, triple),
@@ -62,7 +58,7 @@ pub fn push_violation(
     }
 }
 
-fn push_count(text: &mut String, schedule: Schedule<'_>) -> Result<(), AllocError> {
+fn push_count(text: &mut String, schedule: Schedule<'_>) -> Written {
     let count = schedule.offsets.len();
     let streams = schedule.timing.streams();
     write!(
@@ -80,7 +76,7 @@ pub fn past_end(period: u64, cycle: u64) -> &'static str {
     }
 }
 
-fn push_overlap(text: &mut String, problem: &Problem, triple: Triple) -> Result<(), AllocError> {
+fn push_overlap(text: &mut String, problem: &Problem, triple: Triple) -> Written {
     let left = StreamName(problem, triple.left);
     let right = StreamName(problem, triple.right);
     let link = LinkName(problem, triple.link);
@@ -97,7 +93,7 @@ fn push_times(
     schedule: Schedule<'_>,
     stream: usize,
     violation: Violation,
-) -> Result<(), AllocError>
+) -> Written
     requires { stream < stream_count schedule.timing.now }
 {
     let timing = schedule.timing;

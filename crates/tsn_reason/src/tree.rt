@@ -1,9 +1,9 @@
 //! Why a tree is refused, in words: what its first fault is, with the names of the problem.
 
-use crate::Reason;
 use crate::claim::{Claim, line_on_plan, push_wrong_target};
 use crate::offsets::past_end;
-use std::alloc::{AllocError, Global};
+use crate::{Reason, Written};
+use std::alloc::Global;
 use std::fmt::Write;
 use tsn_cert::Plan;
 use tsn_check::{NodeFault, Shortfall, TreeFault};
@@ -19,34 +19,45 @@ pub fn line_on_tree(alloc: Global, claim: Claim<'_>, name: &str, fault: TreeFaul
         TreeFault::Target { stated, wanted } => {
             push_wrong_target(&mut text, claim.plan, stated, wanted)
         }
-        TreeFault::Node(number, NodeFault::NotSent) => write!(
-            text,
-            "node {number} has a frame that its stream doesn't send"
-        ),
-        TreeFault::Node(number, NodeFault::TooLow(short)) => {
-            write!(text, "node {number}: ")?;
-            push_short(&mut text, claim.plan, short)
-        }
-        TreeFault::Node(number, NodeFault::TieTooLow(Shortfall::Bound { bound, least })) => write!(
-            text,
-            "node {number}: the bound {bound} is below the plan's flowspan {least}"
-        ),
-        TreeFault::Node(number, NodeFault::TieOfNone) => write!(
-            text,
-            "node {number}: it is a tie, and the plan is that there is no schedule"
-        ),
-        TreeFault::Node(number, NodeFault::TieSooner) => write!(
-            text,
-            "node {number}: its chains don't show that each schedule on its path is the plan or comes after it"
-        ),
-        _ => write!(text, "{}", fault.code()),
+        TreeFault::Unfinished(_) | TreeFault::TooLong(_) => write!(text, "{}", fault.code()),
+        TreeFault::Node(number, of_node) => push_node(&mut text, claim.plan, number, of_node),
     };
     told?;
     Ok(Some(text))
 }
 
+/// Writes what is wrong with the node of this number, for this plan.
+fn push_node(text: &mut String, plan: &Plan, number: usize, fault: NodeFault) -> Written {
+    match fault {
+        NodeFault::NotConflict
+        | NodeFault::ChainBroken
+        | NodeFault::StreamRepeated
+        | NodeFault::NotOnLink => write!(text, "{}", TreeFault::Node(number, fault).code()),
+        NodeFault::NotSent => write!(
+            text,
+            "node {number} has a frame that its stream doesn't send"
+        ),
+        NodeFault::TieTooLow(Shortfall::Bound { bound, least }) => write!(
+            text,
+            "node {number}: the bound {bound} is below the plan's flowspan {least}"
+        ),
+        NodeFault::TooLow(short) | NodeFault::TieTooLow(short) => {
+            write!(text, "node {number}: ")?;
+            push_short(text, plan, short)
+        }
+        NodeFault::TieOfNone => write!(
+            text,
+            "node {number}: it is a tie, and the plan is that there is no schedule"
+        ),
+        NodeFault::TieSooner => write!(
+            text,
+            "node {number}: its chains don't show that each schedule on its path is the plan or comes after it"
+        ),
+    }
+}
+
 /// Writes what a leaf for this plan comes to, and has to come to.
-fn push_short(text: &mut String, plan: &Plan, short: Shortfall) -> Result<(), AllocError> {
+fn push_short(text: &mut String, plan: &Plan, short: Shortfall) -> Written {
     match short {
         Shortfall::Bound { bound, least } => match plan {
             Plan::Schedule { flowspan, .. } if least > *flowspan => write!(

@@ -1,14 +1,14 @@
 //! What is wrong with a fact or a move of an argument, in words.
 
+use crate::Written;
 use crate::names::{FrameName, Later, LinkName, StreamName};
-use std::alloc::AllocError;
 use std::fmt::Write;
 use tsn_argue::Wrong;
-use tsn_model::{Decision, Side};
+use tsn_model::{Decision, Frame, Side};
 use tsn_timing::Problem;
 
 /// Writes what is wrong.
-pub fn push_wrong(text: &mut String, problem: &Problem, wrong: Wrong) -> Result<(), AllocError> {
+pub fn push_wrong(text: &mut String, problem: &Problem, wrong: Wrong) -> Written {
     match wrong {
         Wrong::Crossed => text.push_str(
             "behind the moves before it nothing is in question any more",
@@ -31,98 +31,98 @@ pub fn push_wrong(text: &mut String, problem: &Problem, wrong: Wrong) -> Result<
             text,
             "the weights of its orders add up to {sum}, and have to be above 0"
         ),
-        _ => push_wrong_of(text, problem, wrong),
-    }
-}
-
-// Writes what is wrong with something that has a name.
-fn push_wrong_of(text: &mut String, problem: &Problem, wrong: Wrong) -> Result<(), AllocError> {
-    match wrong {
         Wrong::NotOnLink { stream, link } => {
             let link = LinkName(problem, link);
             write!(text, "{} doesn't use {link}", StreamName(problem, stream))
         }
-        Wrong::NoFrame(frame) => {
-            let shift = frame.shift;
-            let stream = StreamName(problem, frame.stream);
-            write!(text, "{stream} sends no frame {shift} ns after its offset")
-        }
+        Wrong::NoFrame(frame) => push_no_frame(text, problem, frame),
         Wrong::Repeated(frame) => write!(text, "{} stands twice", FrameName(problem, frame)),
         Wrong::NotAmong(frame) => {
             write!(text, "{} is none of the others", FrameName(problem, frame))
         }
-        Wrong::NoConflict(decision) => {
-            let Order { first, second, .. } = order_of(problem, decision);
-            let link = LinkName(problem, decision.triple.link);
-            write!(text, "{first} and {second} have no conflict on {link}")?;
-            match decision.triple.lag {
-                0 => Ok(()),
-                lag => write!(text, ", with a lag of {lag}"),
-            }
-        }
-        Wrong::NoOrder(decision) => {
-            let Order {
-                first,
-                second,
-                later,
-            } = order_of(problem, decision);
-            let link = LinkName(problem, decision.triple.link);
-            write!(
-                text,
-                "it isn't known that {first} goes before {second}{later} on {link}"
-            )
-        }
-        _ => push_unequal(text, problem, wrong),
-    }
-}
-
-// Writes which inequality doesn't hold.
-fn push_unequal(text: &mut String, problem: &Problem, wrong: Wrong) -> Result<(), AllocError> {
-    match wrong {
+        Wrong::NoConflict(decision) => push_no_conflict(text, problem, decision),
+        Wrong::NoOrder(decision) => push_no_order(text, problem, decision),
         Wrong::InReach {
             stream,
             least,
             most,
-        } => {
-            let stream = StreamName(problem, stream);
-            let (least, most) = (shown_time(least), shown_time(most));
-            write!(
-                text,
-                "by the other order the bound {least} of {stream}'s offset isn't past its greatest one {most}"
-            )
-        }
+        } => push_in_reach(text, StreamName(problem, stream), least, most),
         Wrong::Stronger {
             decision,
             asked,
             known,
-        } => {
-            let Order { first, second, .. } = order_of(problem, decision);
-            write!(
-                text,
-                "what follows has {second} start at least {asked} ns after {first}, and what is known only {known} ns"
-            )
-        }
+        } => push_stronger(text, order_of(problem, decision), asked, known),
         Wrong::Room {
             link,
             bound,
             end,
             of_others,
-        } => {
-            let whose = if of_others { "the others'" } else { "their" };
-            let (bound, end) = (shown_time(bound), shown_time(end));
-            let link = LinkName(problem, link);
-            write!(
-                text,
-                "the bound {bound} of their use isn't past {whose} latest end {end} on {link}"
-            )
-        }
-        _ => Ok(()),
+        } => push_room(text, LinkName(problem, link), bound, end, of_others),
     }
 }
 
-/// A number of a view, in nanoseconds.
-pub fn shown_time(time: i128) -> i64 {
-    i64::try_from(time).unwrap_or(i64::MAX)
+// Writes that the stream of a frame sends no such frame.
+fn push_no_frame(text: &mut String, problem: &Problem, frame: Frame) -> Written {
+    let shift = frame.shift;
+    let stream = StreamName(problem, frame.stream);
+    write!(text, "{stream} sends no frame {shift} ns after its offset")
+}
+
+// Writes that two streams have no such conflict.
+fn push_no_conflict(text: &mut String, problem: &Problem, decision: Decision) -> Written {
+    let Order { first, second, .. } = order_of(problem, decision);
+    let link = LinkName(problem, decision.triple.link);
+    write!(text, "{first} and {second} have no conflict on {link}")?;
+    match decision.triple.lag {
+        0 => Ok(()),
+        lag => write!(text, ", with a lag of {lag}"),
+    }
+}
+
+// Writes which order isn't known.
+fn push_no_order(text: &mut String, problem: &Problem, decision: Decision) -> Written {
+    let Order {
+        first,
+        second,
+        later,
+    } = order_of(problem, decision);
+    let link = LinkName(problem, decision.triple.link);
+    write!(
+        text,
+        "it isn't known that {first} goes before {second}{later} on {link}"
+    )
+}
+
+// Writes that the least offset by the other order isn't above the greatest one.
+fn push_in_reach(text: &mut String, stream: StreamName<'_>, least: i128, most: i128) -> Written {
+    write!(
+        text,
+        "by the other order the bound {least} of {stream}'s offset isn't past its greatest one {most}"
+    )
+}
+
+// Writes by how much an order asks for more than is known.
+fn push_stronger(text: &mut String, order: Order<'_>, asked: i64, known: i64) -> Written {
+    let Order { first, second, .. } = order;
+    write!(
+        text,
+        "what follows has {second} start at least {asked} ns after {first}, and what is known only {known} ns"
+    )
+}
+
+// Writes that frames have room on a link, by the bound of their use and the latest end.
+fn push_room(
+    text: &mut String,
+    link: LinkName<'_>,
+    bound: i128,
+    end: i128,
+    of_others: bool,
+) -> Written {
+    let whose = if of_others { "the others'" } else { "their" };
+    write!(
+        text,
+        "the bound {bound} of their use isn't past {whose} latest end {end} on {link}"
+    )
 }
 
 /// Two streams of a decision, the one first that goes first.
