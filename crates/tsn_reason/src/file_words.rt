@@ -1,14 +1,18 @@
 //! Why a plan file or a certificate file is refused, in words.
 
-use crate::Reason;
-use std::alloc::{AllocError, Global};
+use crate::{Reason, Written};
+use std::alloc::Global;
 use std::fmt;
 use std::fmt::Write;
+use tsn_cert::chain::MAX_NUMBER;
 use tsn_cert::limits::MAX_LAG;
 use tsn_cert::plan::MAX_TIME;
 use tsn_codec::{Excess, Misfit, Part, Refused};
 use tsn_model::NoMemory;
 use tsn_text::{TextBuilder, line_of, push_name};
+
+// What a number has to be before its limit is looked at.
+const NUMBER: &str = "a whole number below 2^64, in digits alone";
 
 /// Why the file of this name is refused.
 pub fn file_line(alloc: Global, name: &str, refused: &Refused) -> Reason {
@@ -23,7 +27,7 @@ pub fn file_line(alloc: Global, name: &str, refused: &Refused) -> Reason {
     Ok(Some(text))
 }
 
-fn push_misfit(alloc: Global, text: &mut String, misfit: &Misfit) -> Result<(), AllocError> {
+fn push_misfit(alloc: Global, text: &mut String, misfit: &Misfit) -> Written {
     match misfit {
         Misfit::NoObject => text.push_str("it has to be an object"),
         Misfit::OtherFormat => text.push_str("format has to be 1, 2 or 3"),
@@ -32,13 +36,13 @@ fn push_misfit(alloc: Global, text: &mut String, misfit: &Misfit) -> Result<(), 
             let mut shown = TextBuilder::new(alloc);
             push_name(&mut shown, key.as_str());
             let shown = shown.finish()?;
-            write!(text, "the key {shown} isn't known")
+            write!(text, "the key {shown} has no place in it")
         }
         Misfit::OneNull => text.push_str("flowspan and offsets have to be null both or neither"),
         Misfit::OtherGoal => text.push_str("goal has to be \"first\", \"least\" or \"none\""),
-        Misfit::NoNumber(key) => write!(text, "{} has to be a whole number", key.name()),
+        Misfit::NoNumber(key) => write!(text, "{} has to be {NUMBER}", key.name()),
         Misfit::NoArray(key) => write!(text, "{} has to be an array", key.name()),
-        Misfit::NoOffset(number) => write!(text, "offset {number} has to be a whole number"),
+        Misfit::NoOffset(number) => write!(text, "offset {number} has to be {NUMBER}"),
         Misfit::NoNode(number, format) => {
             let format = format.number();
             write!(
@@ -71,39 +75,41 @@ impl fmt::Display for PartName {
     }
 }
 
-fn push_excess(text: &mut String, excess: Excess) -> Result<(), AllocError> {
-    let most = MAX_TIME;
+fn push_excess(text: &mut String, excess: Excess) -> Written {
     match excess {
         Excess::At(key, number) => {
             let name = key.name();
-            write!(text, "{name} is {number}, and may be at most {most}")
+            write!(text, "{name} is {number}, and may be at most {MAX_TIME}")
         }
-        Excess::OfOffset(place, number) => {
-            write!(
-                text,
-                "offset {place} is {number}, and may be at most {most}"
-            )
-        }
+        Excess::OfOffset(place, number) => write!(
+            text,
+            "offset {place} is {number}, and may be at most {MAX_TIME}"
+        ),
         Excess::OfNode { number, lags } => {
             write!(text, "node {number}")?;
-            push_large(text, lags, " has a number above ")
+            push_large(text, lags)
         }
         Excess::OfPart { step, part, lags } => {
             write!(text, "step {step}, {}", PartName(part))?;
-            if !lags {
-                write!(text, " has a time above {most}")?;
+            match (part, lags) {
+                (Part::Fact(_), false) => write!(
+                    text,
+                    " has a time above {MAX_TIME}, or another number above {MAX_NUMBER}"
+                ),
+                (Part::Fact(_), true) | (Part::Move(_), _) => push_large(text, lags),
             }
-            push_large(text, lags, ", or another number above ")
         }
     }
 }
 
-/// Writes that a number is too large, where a lag among them may be, and else by these words.
-fn push_large(text: &mut String, lags: bool, words: &str) -> Result<(), AllocError> {
-    let mut words = words;
+/// Writes that one of some numbers, of which none is a time, is too large; a lag is told, where there are any.
+fn push_large(text: &mut String, lags: bool) -> Written {
     if lags {
-        write!(text, " has a lag whose size is above {}", MAX_LAG)?;
-        words = ", or another number above ";
+        write!(
+            text,
+            " has a lag whose size is above {MAX_LAG}, or another number above {MAX_NUMBER}"
+        )
+    } else {
+        write!(text, " has a number above {MAX_NUMBER}")
     }
-    write!(text, "{words}4294967295")
 }
