@@ -237,7 +237,7 @@ fn lists(
 {
     let lists = lists_by(alloc, problem, valid, options.merge)?;
     let text = text_in(alloc, problem, &lists, options.format, options.limits)?;
-    let remarks = untaken(alloc, problem, &lists, options);
+    let remarks = untaken(alloc, problem, &lists, options)?;
     Ok(Shown::Text(text, remarks))
 }
 

@@ -8,17 +8,16 @@ use tsn_timing::Problem;
 use tsn_words::GatesFormat;
 
 /// A line for each merged list that leaves others no time, and for each that has more entries than a device takes, or a shorter one
-/// than it takes, where they are printed as a script for a device; None where there is no memory for them.
+/// than it takes, where they are printed as a script for a device.
 pub(crate) fn untaken(
     alloc: Global,
     problem: &Problem,
     lists: &[GateList],
     options: GatesOptions,
-) -> Option<String> {
+) -> Result<Option<String>, NoMemory> {
     match options.format {
-        GatesFormat::Taprio => lines_of(alloc, problem, lists, options).ok(),
-        GatesFormat::Table => None,
-        GatesFormat::Json => None,
+        GatesFormat::Taprio => Ok(Some(lines_of(alloc, problem, lists, options)?)),
+        GatesFormat::Table | GatesFormat::Json => Ok(None),
     }
 }
 
