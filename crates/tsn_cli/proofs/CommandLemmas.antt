@@ -1,5 +1,5 @@
 -- How what is shown tells a fault, and what a run ends with that shows it.
-use Rattle.std.proofs.Common.{◌≡◌, ℕ, List, [], ◌∷◌, Bool, true, false, IsTrue, Result, Ok, Err, IfOk, refl}
+use Rattle.std.proofs.Common.{ℕ, List, [], ◌∷◌, Bool, true, false, IsTrue, Result, Ok, Err, IfOk, refl}
 use Rattle.tsn_device.specs.declared.device.ReadFault.{ReadFault}
 use Rattle.tsn_device.specs.declared.device.ReadFault.TheVariants.{Broken}
 use Rattle.tsn_given.specs.declared.answer.Answer.{Answer}

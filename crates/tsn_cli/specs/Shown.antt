@@ -2,13 +2,12 @@
 --     shown_output, IsShownBy     its output
 --     IsSaid, IsToldAs            it is an answer in a line; how it is told
 --     NetworkAnswers              what a command answers that reads a network alone
-use Rattle.std.specs.Prelude.{◌≡◌, ◌⊎◌, ℕ, List, [], ◌∷◌, Bool, string_bytes, Result, Ok, Err}
+use Rattle.std.specs.Prelude.{◌≡◌, ◌⊎◌, ℕ, [], ◌∷◌, Bool, string_bytes, Result, Ok, Err}
 use Rattle.tsn_net.specs.File.{States}
 use Rattle.tsn_timing.specs.Problem.{NamedNetwork}
 use Rattle.tsn_device.specs.declared.device.ReadFault.{ReadFault}
 use Rattle.tsn_cli.specs.declared.showing.Shown.{Shown}
 use Rattle.tsn_cli.specs.declared.showing.Shown.TheVariants.{Text, Said}
-use Rattle.tsn_given.specs.declared.answer.Answer.{Answer}
 use Rattle.tsn_given.specs.Run.{Command, Output, SinkRun}
 use Rattle.tsn_given.specs.Runs.{IsToldBy}
 use Rattle.tsn_given.specs.Outcome.{IsWrittenAs, output_of}

@@ -2,16 +2,17 @@
 ghost use Rattle.std.specs.Prelude.{◌<◌, ◌-◌, ◌^◌, [], ◌∷◌, IfOk, Ok};
 ghost use Rattle.tsn_given.specs.Run.{RunsOver, sink_over, source_over};
 ghost use Rattle.tsn_given.specs.Outcome.{IsOutcome, output_of};
-ghost use Rattle.tsn_reason.specs.Check.{CheckAnswers, accepted};
+ghost use Rattle.tsn_reason.specs.Check.{CheckAnswers, IsAccepted, accepted};
 
-use crate::certified::certified_shown;
-use crate::showing::{Showing, show};
+use crate::certified::{CertificateView, certified_shown};
+use crate::showing::{Shown, show};
 use std::alloc::Global;
-use tsn_cert::Plan;
+use tsn_cert::{Certificate, Plan};
 use tsn_check::Verdict;
 use tsn_device::device::{Sink, Source};
 use tsn_given::{Answer, Outcome};
 use tsn_model::NoMemory;
+use tsn_reason::Claim;
 
 /// Reads a network file, a plan file and a certificate file of format 1, 2 or 3, each judged before the next is read, and writes a
 /// line on the first that is refused, or on what the certificate shows. The answer is the status.
@@ -36,12 +37,32 @@ pub fn check_run<N: Source, P: Source, C: Source, W: Sink>(
 {
     show(
         sink,
-        &certified_shown(alloc, network, plan, cert, Showing::Verdict),
+        &certified_shown(alloc, network, plan, cert, &VerdictLine),
     )
 }
 
-/// What is said of a plan whose certificate is accepted with this verdict.
-pub(crate) fn acceptance(alloc: Global, verdict: Verdict, plan: &Plan) -> Result<Answer, NoMemory>
+/// The verdict on a certificate, in a line.
+#[derive(Clone, Copy)]
+pub struct VerdictLine;
+
+impl CertificateView for VerdictLine {
+    ghost shows = { λ _. IsAccepted };
+
+    ghost is_line = { λ _. Unit {0} };
+
+    fn view(
+        &self,
+        alloc: Global,
+        claim: Claim<'_>,
+        _certificate: &Certificate,
+        verdict: Verdict,
+    ) -> Result<Shown, NoMemory> {
+        Ok(Shown::Said(acceptance(alloc, verdict, claim.plan)?))
+    }
+}
+
+// What is said of a plan whose certificate is accepted with this verdict.
+fn acceptance(alloc: Global, verdict: Verdict, plan: &Plan) -> Result<Answer, NoMemory>
     ensures { IfOk result (λ a. IsOutcome (accepted verdict plan.now) (output_of (Ok a))) }
 {
     let flowspan = match plan {

@@ -13,12 +13,12 @@ mod tables;
 mod untaken;
 mod valid;
 
-pub use certified::certified_shown;
-pub use check::check_run;
+pub use certified::{CertificateView, certified_shown};
+pub use check::{VerdictLine, check_run};
 pub use network::{NetworkView, network_shown};
-pub use showing::{Showing, Shown, show};
+pub use showing::{Shown, show};
 pub use table::{GatesOptions, ReplayOptions, Table};
-pub use tables::{gates_run, replay_run, table_shown};
+pub use tables::{gates_run, plan_shown, replay_run, table_shown};
 pub use tsn_timing::Problem;
 pub use tsn_words::{GatesFormat, ReplayFormat, StreamsFormat};
 pub use valid::{Offsets, valid_run};

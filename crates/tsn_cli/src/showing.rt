@@ -1,24 +1,12 @@
-//! What is shown of a plan and its certificate.
+//! What is shown, and how it is written.
 ghost use Rattle.std.specs.Prelude.{◌<◌, ◌-◌, ◌^◌, [], ◌∷◌};
 ghost use Rattle.tsn_given.specs.Run.{sink_over};
 ghost use Rattle.tsn_given.specs.Outcome.{IsWrittenAs};
 ghost use Rattle.tsn_cli.specs.Shown.{IsShownBy};
 
-use tsn_chart::Drawing;
 use tsn_device::device::{ReadFault, Sink};
 use tsn_given::Answer;
 use tsn_given::run::{DONE, finish, respond};
-
-/// What is shown of a plan once its certificate is accepted.
-#[derive(Clone, Copy)]
-pub enum Showing {
-    /// The verdict, in a line.
-    Verdict,
-    /// What the certificate shows, in words.
-    Words,
-    /// A picture of the plan, in which the frames are marked that the certificate is about.
-    Picture(Drawing),
-}
 
 /// What is shown: a text that was asked for, with remarks on it for standard error, a line each, of which nothing is claimed; or an
 /// answer in a line, such as why a file is refused.

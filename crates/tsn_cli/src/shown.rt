@@ -1,19 +1,16 @@
 //! The commands that judge and show, over what they are given.
-ghost use Rattle.std.specs.Prelude.{◌≡◌, [], ◌∷◌, IfOk, IsTrue, Ok, option_map};
+ghost use Rattle.std.specs.Prelude.{◌≡◌, [], ◌∷◌, IfOk, IsTrue, Ok};
 ghost use Rattle.tsn_given.specs.Run.{RunsOver, sink_over};
 ghost use Rattle.tsn_given.specs.Runs.{OverCert, OverNetwork, OverPlan, RunsTold};
 ghost use Rattle.tsn_given.specs.Outcome.{IsWrittenAs};
 ghost use Rattle.tsn_cli.specs.declared.showing.Shown.TheVariants.{Text};
-ghost use Rattle.tsn_cli.specs.declared.showing.Showing.TheVariants.{Verdict};
-ghost use Rattle.tsn_cli.specs.Charts.{RunsChart};
-ghost use Rattle.tsn_cli.specs.Explain.{CertAnswers};
+ghost use Rattle.tsn_reason.specs.Check.{CertAnswersBy};
 ghost use Rattle.tsn_cli.specs.Shown.{IsSaid, IsShownBy, IsToldAs, NetworkAnswers};
 ghost use Rattle.tsn_cli.specs.Tables.{CanShow, TableAnswers};
 
-use crate::certified::certified_shown;
+use crate::certified::{CertificateView, certified_shown};
 use crate::network::{NetworkView, network_shown};
-use crate::options::drawing_of;
-use crate::showing::{Showing, Shown};
+use crate::showing::Shown;
 use crate::table::Table;
 use crate::tables::table_shown;
 use std::alloc::Global;
@@ -23,7 +20,7 @@ use tsn_given::reason::{failure_line, fault_of, source_line};
 use tsn_given::run::{DONE, finish};
 use tsn_given::told::{Ran, Told, tell, tell_all};
 use tsn_given::{Given, Made};
-use tsn_words::{ChartWords, ExplainWords};
+use tsn_words::ExplainWords;
 
 /// Shows what a view makes of a network; the network `-` is standard input. With `json` an answer in a line is told as a line of JSON.
 pub fn network<'a, G: Given<'a>, W: Made, V: NetworkView>(
@@ -72,26 +69,27 @@ pub fn table<'a, G: Given<'a>, W: Made>(
     tell_shown(alloc, given, output, shown, stopped, false)
 }
 
-/// Shows what a certificate is about; the network `-` is standard input. With `json` its verdict is told as a line of JSON.
-pub fn certified<'a, G: Given<'a>, W: Made>(
+/// Shows what a view makes of a plan whose certificate is accepted; the network `-` is standard input. With `json` an answer in a line is
+/// told as a line of JSON.
+pub fn certified<'a, G: Given<'a>, W: Made, V: CertificateView>(
     alloc: Global,
     given: &mut G,
     output: W,
     words: ExplainWords<'a>,
-    showing: Showing,
+    view: &V,
     json: bool,
 ) -> Ran<W>
     requires output { W.failed output ≡ 0 }
-    requires line { IsTrue json → showing ≡ Verdict }
+    requires line { IsTrue json → V.is_line view.now }
     ensures { OverCert G.Source.given G.Source.failed G.Source.is_at_end (G.opens_network given.old words.entry.network.now)
         (G.opens_plan given.old words.entry.plan.now) (G.opens_cert given.old words.entry.cert.now)
-        (λ sources. RunsTold json (CertAnswers showing) sources []
+        (λ sources. RunsTold json (CertAnswersBy (V.shows view.now)) sources []
         (sink_over W.taken W.failed output result.output) result.status) }
 {
     let mut network = given.network(words.network);
     let mut plan = given.plan(words.plan);
     let mut cert = given.cert(words.cert);
-    let shown = certified_shown(alloc, &mut network, &mut plan, &mut cert, showing);
+    let shown = certified_shown(alloc, &mut network, &mut plan, &mut cert, view);
     let fault = fault_of(&shown);
     let stopped = source_line(alloc, fault, &network)
         .or(source_line(alloc, fault, &plan))
@@ -100,41 +98,6 @@ pub fn certified<'a, G: Given<'a>, W: Made>(
     drop(plan);
     drop(cert);
     tell_shown(alloc, given, output, shown, stopped, json)
-}
-
-/// Draws a plan, with marks where the words name a certificate; the network `-` is standard input.
-pub fn picture<'a, G: Given<'a>, W: Made>(
-    alloc: Global,
-    given: &mut G,
-    output: W,
-    words: ChartWords<'a>,
-) -> Ran<W>
-    requires { W.failed output ≡ 0 }
-    ensures { RunsChart G.Source.given G.Source.failed G.Source.is_at_end
-        (G.opens_network given.old) (G.opens_plan given.old) (G.opens_cert given.old) words.entry
-        (option_map (λ cert. cert.now) words.entry.cert)
-        (sink_over W.taken W.failed output result.output) result.status }
-{
-    let ChartWords { network, plan, .. } = words;
-    let drawing = drawing_of(words);
-    match words.cert {
-        Some(cert) => {
-            let words = ExplainWords {
-                network,
-                plan,
-                cert,
-            };
-            certified(
-                alloc,
-                given,
-                output,
-                words,
-                Showing::Picture(drawing),
-                false,
-            )
-        }
-        None => table(alloc, given, output, network, plan, Table::Chart(drawing)),
-    }
 }
 
 // Writes what is shown, and tells remarks on it, or why it is refused or can't be written.

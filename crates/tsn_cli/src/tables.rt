@@ -122,14 +122,14 @@ fn answer_to(
         name,
         plan: &plan,
     };
-    let answer = judgement(alloc, claim, table, &[]);
+    let answer = plan_shown(alloc, claim, table, &[]);
     drop(problem);
     drop(plan);
     answer
 }
 
 /// What is said of a plan; in a picture of it some frames may be marked, each by its stream and its link.
-pub(crate) fn judgement(
+pub fn plan_shown(
     alloc: Global,
     claim: Claim<'_>,
     table: Table,

@@ -5,6 +5,7 @@ ghost use Rattle.tsn_given.specs.Runs.{WithSome};
 ghost use Rattle.tsn_prover.specs.Devices.{devices_of};
 ghost use Rattle.tsn_command.specs.Asked.{RunsAsked};
 
+use crate::explained::{Explanation, picture};
 use crate::planning::plan;
 use std::alloc::Global;
 use std::io::Eprint;
@@ -12,8 +13,8 @@ use std::sync::Wait;
 use std::thread::Threads;
 use std::time::Clock;
 use tsn_cli::options::{gates_options, replay_options};
-use tsn_cli::shown::{certified, network, picture, table};
-use tsn_cli::{Offsets, Showing, Table};
+use tsn_cli::shown::{certified, network, table};
+use tsn_cli::{Offsets, Table, VerdictLine};
 use tsn_given::{Given, Made, Ran};
 use tsn_prover::prove;
 use tsn_words::{CheckWords, ExplainWords, Words};
@@ -72,10 +73,10 @@ pub fn run_to<'a, T: Threads + Wait + Sync, C: Clock + Eprint + Sync, G: Given<'
                 plan,
                 cert,
             };
-            certified(alloc, given, output, files, Showing::Verdict, json)
+            certified(alloc, given, output, files, &VerdictLine, json)
         }
         Words::Prove(words) => prove(console, alloc, given, output, words),
-        Words::Explain(words) => certified(alloc, given, output, words, Showing::Words, false),
+        Words::Explain(words) => certified(alloc, given, output, words, &Explanation, false),
         Words::Gates(words) => {
             let lists = Table::Gates(gates_options(words));
             table(alloc, given, output, words.network, words.plan, lists)

@@ -3,6 +3,7 @@
 #![tactic(auto)]
 
 mod command;
+mod explained;
 mod plan;
 pub mod planning;
 

@@ -10,7 +10,7 @@ use Rattle.tsn_given.specs.Outcome.{IsOutcome}
 use Rattle.tsn_given.specs.declared.outcome.Outcome.TheVariants.{RefusedPlan}
 use Rattle.tsn_cli.specs.Shown.{shown_output}
 use Rattle.tsn_cli.specs.Tables.{RejectsPlan, ShowsPlan}
-use Rattle.tsn_cli.proofs.tables.judgement.Goals as goal
+use Rattle.tsn_cli.proofs.tables.plan_shown.Goals as goal
 
 -- what is said of a plan with a first fault is that it is refused for it
 rejects : {A E : Type 0} (network timing : Network) (plan : Plan) (fault : PlanFault) (Shows : A → Type 0) (output : A → Output) (answer : Result A E)

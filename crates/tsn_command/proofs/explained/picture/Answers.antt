@@ -1,4 +1,4 @@
-use Rattle.tsn_cli.proofs.shown.picture.Goals as goal
+use Rattle.tsn_command.proofs.explained.picture.Goals as goal
 
 pub returns-in-Some : goal.returns-in-Some
 returns-in-Some g c = rw c.in-Some.is (c.drawing_of-drawing.result, (c.drawing_of-drawing.ensures, c.certified.ensures))
