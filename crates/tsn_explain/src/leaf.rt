@@ -9,8 +9,7 @@ use tsn_model::Frame;
 /// The bound that a node shows for the flowspan, if it does.
 pub fn bound_of(node: &Node) -> Option<&LowerBound> {
     match node {
-        Node::Leaf(Leaf::Bound(bound)) => Some(bound),
-        Node::Tie(bound, _) => Some(bound),
+        Node::Leaf(Leaf::Bound(bound)) | Node::Tie(bound, _) => Some(bound),
         _ => None,
     }
 }

@@ -252,15 +252,11 @@ impl Narrator<'_, '_> {
 
 // The frames with one more, by the numbers of their streams and then by their shifts.
 fn with_frame(alloc: Global, others: &[Frame], frame: Frame) -> Result<Vec<Frame>, AllocError> {
-    let mut keys = vec![in alloc; (frame.stream, frame.shift)]?;
+    let mut all = vec![in alloc; frame]?;
     for other in others {
-        keys.push((other.stream, other.shift))?;
+        all.push(*other)?;
     }
-    keys.sort()?;
-    let mut all = Vec::new(alloc);
-    for (stream, shift) in keys {
-        all.push(Frame { stream, shift })?;
-    }
+    all.sort_by_key(|frame| (frame.stream, frame.shift))?;
     Ok(all)
 }
 

@@ -83,8 +83,7 @@ impl<'a, 'b> Narrator<'a, 'b> {
 
     /// Ends the telling, and says whether there was memory for all that it notes.
     pub fn finish(self) -> Result<(), AllocError> {
-        let Narrator { limited, .. } = self;
-        drop(limited.finish()?);
+        drop(self.limited.finish()?);
         Ok(())
     }
 

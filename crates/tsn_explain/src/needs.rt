@@ -49,8 +49,7 @@ pub fn part_of(
         ground: BTreeMap::new(alloc),
         view: BTreeMap::new(alloc),
         clauses: 0,
-        step: 0,
-        place: 0,
+        now: (0, 0),
         needs: Vec::new(alloc),
         kept: None,
         showing: None,
@@ -75,8 +74,7 @@ struct Tracker {
     // How many clauses were shown.
     clauses: usize,
     // Where the argument is.
-    step: usize,
-    place: usize,
+    now: Source,
     // Where something was needed, in the argument's order, and from where that is.
     needs: Vec<(Source, Source)>,
     // What the ground learns where the step under way ends, and whether that contradicts it.
@@ -90,7 +88,7 @@ impl Listener for Tracker {
     ghost heard = { λ _. None };
 
     fn begin(&mut self, ground: &View<'_>, step: &Step) {
-        self.place = 0;
+        self.now.1 = 0;
         let facts = step.clause.list();
         for fact in facts {
             if let Some((news, is_against)) = unknown(ground, News::opposite_of(*fact)) {
@@ -129,32 +127,26 @@ impl Listener for Tracker {
         } else {
             self.view = BTreeMap::new(self.alloc);
             let clause = Use::Clause(self.clauses);
-            let now = self.now();
-            self.is_refused |= self.ground.insert(clause, now).is_err();
+            self.is_refused |= self.ground.insert(clause, self.now).is_err();
             self.clauses = self.clauses.wrapping_add(1);
             self.keep_news();
         }
-        self.step = self.step.wrapping_add(1);
+        self.now.0 = self.now.0.wrapping_add(1);
     }
 }
 
 impl Reader for Tracker {
     fn read(&mut self, part: Use) {
         if let Some(source) = self.source_of(part) {
-            let now = self.now();
-            self.is_refused |= self.needs.push((now, source)).is_err();
+            self.is_refused |= self.needs.push((self.now, source)).is_err();
         }
     }
 }
 
 impl Tracker {
-    fn now(&self) -> Source {
-        (self.step, self.place)
-    }
-
     // The next fact of a move begins.
     fn go_on(&mut self) {
-        self.place = self.place.wrapping_add(1);
+        self.now.1 = self.now.1.wrapping_add(1);
     }
 
     // From where a part is, if it is from a step.
@@ -164,8 +156,7 @@ impl Tracker {
 
     // A fact is shown here.
     fn note(&mut self, news: News, is_against: bool) {
-        let now = self.now();
-        self.is_refused |= self.view.insert(Use::of(news), now).is_err();
+        self.is_refused |= self.view.insert(Use::of(news), self.now).is_err();
         if is_against {
             self.read(Use::against(news));
         }
@@ -199,7 +190,7 @@ impl Tracker {
             return;
         }
         if is_impossible {
-            self.showing = Some(self.now());
+            self.showing = Some(self.now);
         } else if low >= self.target {
             self.showing = self.source_of(Use::LeastDone);
         }

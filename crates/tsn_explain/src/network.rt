@@ -109,13 +109,10 @@ impl<'a> TimedNetwork<'a> {
 
     /// The first stream that can't be done in time from its least offset on.
     pub fn roomless(self) -> Option<usize> {
-        for stream in 0..self.timing.streams() {
-            let times = self.times(stream);
-            if times.release > times.latest_offset {
-                return Some(stream);
-            }
-        }
-        None
+        (0..self.timing.streams()).find(|stream| {
+            let times = self.times(*stream);
+            times.release > times.latest_offset
+        })
     }
 }
 

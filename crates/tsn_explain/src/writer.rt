@@ -45,13 +45,11 @@ impl<'a> Writer<'a> {
 
     /// The list that the text needs, or none of it where there was no memory.
     pub fn kept<T>(&mut self, list: Result<Vec<T>, AllocError>) -> Vec<T> {
-        match list {
-            Ok(list) => list,
-            Err(_) => {
-                self.is_refused = true;
-                Vec::new(self.alloc)
-            }
-        }
+        let Ok(list) = list else {
+            self.is_refused = true;
+            return Vec::new(self.alloc);
+        };
+        list
     }
 
     /// Writes what is shown.
