@@ -4,9 +4,10 @@
 refused.py [N]   N, 1 unless given: only each Nth call is refused.
 
 A small library (bench/refused/refuse.c, which needs a C compiler) stands before the allocator of the built program. Each run
-has to end with status 7 and the line `no memory`, or whole, where the call that was refused could be done without. Then the same
-with all calls refused from each one on; and `plan` with 4 workers and by the conflict-driven search, each call alone, on the star of
-ten and on networks on which that search learns: no memory, or the optimum with a certificate that is accepted. A run is stopped
+has to end with status 7 and the line `no memory`, or whole, where the call that was refused could be done without; with status 0 it
+tells the same remarks, too. Then the same with all calls refused from each one on; and `plan` with 4 workers and by the conflict-driven
+search, each call alone, on the star of ten and on networks on which that search learns: no memory, or the optimum with a certificate
+that is accepted. A run is stopped
 only where the limit is too little for the order of the file, when the conflict-driven search or the check of its argument had no
 memory; its plan is then a valid schedule. Of a plan whose tree is written in pieces the last calls alone are refused, when some of
 these are written. No run leaves an unfinished file. What is told at the end has how many calls were refused in all.
@@ -47,7 +48,7 @@ def compiled(folder):
 
 class Program:
     def __init__(self, folder, path=PROGRAM):
-        self.folder, self.path = folder, path
+        self.folder, self.path, self.remarks = folder, path, ""
         self.library = compiled(folder)
 
     def run(self, words, refused=None):
@@ -62,17 +63,21 @@ class Program:
         for name in os.listdir(self.folder):
             if ".tsn-unfinished-" in name:
                 sys.exit(f"{' '.join(words)}: with call {refused} refused it leaves {name}")
+        self.remarks = found.stderr
         return (found.stdout.strip(), found.returncode), calls
 
     def refuse_each(self, words):
         """Refuses each call of a run, alone and with all behind it: how many runs ended with no memory."""
         whole, calls = self.run(words)
+        remarks = self.remarks if whole[1] == 0 else None
         ended = 0
         for number in range(1, calls + 1, EVERY):
             for refused in (f"{number}", f"{number}+"):
                 end, _ = self.run(words, refused)
                 if end not in (whole, NO_MEMORY) and not (refused.endswith("+") and end[1] == 7):
                     sys.exit(f"{' '.join(words)}: with call {refused} refused it ends with {end}")
+                if end == whole and remarks not in (None, self.remarks):
+                    sys.exit(f"{' '.join(words)}: with call {refused} refused it tells {self.remarks!r}")
                 ended += end != whole
         return calls, ended
 
@@ -91,7 +96,7 @@ def commands(folder):
         yield ["check", network, plan, argument]
         yield ["prove", network, plan, "--cert", os.path.join(folder, "cert")]
         yield ["gates", network, plan]
-        yield ["gates", network, plan, "--merge", "2000", "--format", "taprio"]
+        yield ["gates", network, plan, "--merge", "2000", "--format", "taprio", "--most", "2"]
         yield ["replay", network, plan, "--cycles", "2", "--greedy"]
         yield ["streams", network, plan, "--format", "json"]
         yield ["chart", network, plan]
