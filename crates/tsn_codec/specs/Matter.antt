@@ -237,7 +237,8 @@ IsPartMisfit step (part.Move number) =
     (clause moves x : Data) × (element_at 0 step ≡ Some clause) × (element_at 1 step ≡ Some moves) × IsRead (clause_in clause)
     × IsFirstOther move_in moves number x
 
--- why the value is no step, of which this is the number
+-- Why the value is no step, of which this is the number. Of one that is no array of two arrays, and has a part of another form before that,
+-- either may be told.
 abbrev pub IsStepMisfit : ℕ → Data → Misfit → Type 0
 IsStepMisfit number step (misfit.NoStep told) = (told ≡ number) × (is_pair step ≡ false)
 IsStepMisfit number step (misfit.NoPart told it) = (told ≡ number) × IsPartMisfit step it

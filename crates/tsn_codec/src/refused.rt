@@ -43,8 +43,8 @@ pub enum Part {
     Move(usize),
 }
 
-/// What isn't of the form of the file. Where more than one thing isn't, the first one in this order is told; of nodes, steps, their parts
-/// and offsets the first one in the file.
+/// What isn't of the form of the file. Where more than one thing isn't, the first one in this order is told; of nodes, steps and offsets
+/// the first one in the file, and of a step what stands first in it.
 #[derive(Drop)]
 pub enum Misfit {
     /// The value is no object.
