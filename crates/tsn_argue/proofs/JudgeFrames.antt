@@ -12,7 +12,7 @@ use Rattle.tsn_model.proofs.Lists.{Contains-cons_cases}
 use Rattle.tsn_argue.specs.Faults.{IsWrongFrame, AreWrongOn, IsWrongChoice, AreAmong, AreWrongAmong}
 use Rattle.tsn_argue.specs.Seen.{Tells}
 use Rattle.tsn_argue.specs.declared.seen.Seen.{Seen}
-use Rattle.tsn_argue.specs.declared.wrong.Wrong.{Wrong}
+use Rattle.tsn_check.specs.declared.wrong.Wrong.{Wrong}
 
 no_pairs : AllPairs {X = Frame} ◌≢◌ []
 no_pairs = λ i j d order below. absurd (omega arith)

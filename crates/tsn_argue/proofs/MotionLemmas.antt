@@ -19,8 +19,8 @@ use Rattle.tsn_cert.specs.declared.order.Order.{Order}
 use Rattle.tsn_cert.specs.declared.fact.Fact.{Fact}
 use Rattle.std.specs.Borrow.{Bor}
 use Rattle.std.proofs.lemmas.Option.{slice_get-get_or}
-use Rattle.tsn_argue.specs.declared.wrong.Wrong.{Wrong}
-use Rattle.tsn_argue.specs.declared.wrong.Wrong.TheVariants.{NotClosed}
+use Rattle.tsn_check.specs.declared.wrong.Wrong.{Wrong}
+use Rattle.tsn_check.specs.declared.wrong.Wrong.TheVariants.{NotClosed}
 use Rattle.tsn_argue.specs.Faults.{IsWrongOrder, IsUnclosed}
 use Rattle.tsn_argue.specs.Motion.{FindsUnit, IsArcIn, clauses_of}
 

@@ -13,7 +13,7 @@ use Rattle.tsn_model.specs.Certificate.{IsFrameOn}
 use Rattle.tsn_model.specs.Argument.{go, turn, apply, put_last, put_first, pack, round, follow, Fact, View, Move, AreOn, AreSome, LeadsBy, AsksNoMore, IsAllowed}
 use Rattle.tsn_argue.specs.First.{IsFirstWrong}
 use Rattle.tsn_argue.specs.Faults.{IsOffLink, IsWrongFrame, AreWrongOn, AreAmong, IsWrongChoice, AreWrongAmong, IsWrongPlacing, LeadOn, GoRound, IsWrongOrder, IsUnclosed, AsksMore, IsWrongMove}
-use Rattle.tsn_argue.specs.declared.wrong.Wrong.{Wrong}
+use Rattle.tsn_check.specs.declared.wrong.Wrong.{Wrong}
 use Rattle.tsn_argue.proofs.FirstLemmas.{first_wrong_refutes, one_first_wrong, all_there, none_before}
 use Rattle.std.proofs.lemmas.Option.{slice_get_within}
 

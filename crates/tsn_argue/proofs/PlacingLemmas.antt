@@ -14,7 +14,7 @@ use Rattle.tsn_argue.specs.Motion.{FindsPlacing, JudgesMove, facts_of}
 use Rattle.tsn_argue.specs.Loads.{ShowsWithout}
 use Rattle.tsn_argue.specs.declared.motion.Shown.{Shown}
 use Rattle.tsn_argue.specs.Frames.{FindsChoice}
-use Rattle.tsn_argue.specs.declared.wrong.Wrong.{Wrong}
+use Rattle.tsn_check.specs.declared.wrong.Wrong.{Wrong}
 use Rattle.tsn_argue.proofs.MotionLemmas.{one_fact}
 
 module _ (network : Network) (link : ℕ) (frame : Frame) (frames : List Frame) (on : AreOn network link (frame ∷ frames)) where

@@ -7,15 +7,16 @@ use Rattle.tsn_model.specs.Network.{Network}
 use Rattle.tsn_model.specs.Schedule.{offset_of}
 use Rattle.tsn_model.specs.Argument.{from, until, order, done_from, done_until, goal_first, goal_least, goal_none, Goal, Fact, View, Move, Step, Known, low_at, IsFact, AreAllowed, narrowed, begun, IsRight, Argues}
 use Rattle.tsn_argue.specs.First.{IsFirstTold}
-use Rattle.tsn_argue.specs.Faults.{IsWrongFact, IsWrongNext, IsFactFault, IsMoveFault, IsWrongStep, known_by, AreRight, first_known, IsWrongAfter, IsBelow, IsOpen, IsArgumentFault, IsWrongPlan, IsWrongAim, IsWhy, code_of}
-use Rattle.tsn_argue.specs.declared.wrong.Wrong.{Wrong}
-use Rattle.tsn_argue.specs.declared.fault.StepFault.{StepFault}
-use Rattle.tsn_argue.specs.declared.fault.StepFault.TheVariants as of_step
-use Rattle.tsn_argue.specs.declared.fault.Open.{Open}
-use Rattle.tsn_argue.specs.declared.fault.Open.TheVariants as open_as
-use Rattle.tsn_argue.specs.declared.fault.ArgumentFault.{ArgumentFault}
-use Rattle.tsn_argue.specs.declared.fault.ArgumentFault.TheVariants as why
+use Rattle.tsn_argue.specs.Faults.{IsWrongFact, IsWrongNext, IsFactFault, IsMoveFault, IsWrongStep, known_by, AreRight, first_known, IsWrongAfter, IsBelow, IsOpen, IsArgumentFault, IsWrongPlan, IsWrongAim, IsWhy}
+use Rattle.tsn_check.specs.declared.wrong.Wrong.{Wrong}
+use Rattle.tsn_check.specs.declared.argument.StepFault.{StepFault}
+use Rattle.tsn_check.specs.declared.argument.StepFault.TheVariants as of_step
+use Rattle.tsn_check.specs.declared.argument.Open.{Open}
+use Rattle.tsn_check.specs.declared.argument.Open.TheVariants as open_as
+use Rattle.tsn_check.specs.declared.argument.ArgumentFault.{ArgumentFault}
+use Rattle.tsn_check.specs.declared.argument.ArgumentFault.TheVariants as why
 use Rattle.tsn_check.specs.declared.fault.CheckFault.{CheckFault}
+use Rattle.tsn_check.specs.Numbers.{argument_code}
 use Rattle.tsn_check.proofs.Plans.{claim_refutes, one_claim}
 use Rattle.tsn_cert.specs.declared.plan.Plan.{Plan}
 use Rattle.tsn_cert.specs.declared.argument.Argument.{Argument}
@@ -208,4 +209,4 @@ shows_refuted network p argument fault shown = why_refuted network p argument sh
 
 pub one_show_fault : (network : Network) (p : Plan) (argument : Argument) (a b : CheckFault) → IsShowFault network p argument a
     → IsShowFault network p argument b → a ≡ b
-one_show_fault network p argument a b one two = one.2 ∙ ap code_of (one_why network p argument one.0 two.0 one.1 two.1) ∙ sym two.2
+one_show_fault network p argument a b one two = one.2 ∙ ap argument_code (one_why network p argument one.0 two.0 one.1 two.1) ∙ sym two.2

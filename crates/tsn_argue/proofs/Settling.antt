@@ -11,7 +11,7 @@ use Rattle.tsn_argue.specs.State.{view_of, IsSound, Becomes}
 use Rattle.tsn_argue.specs.Steps.{goal_of, capped_view, FindsBelow, FindsOpen}
 use Rattle.tsn_argue.specs.declared.aim.Aim.{Aim}
 use Rattle.tsn_argue.specs.declared.aim.Aim.TheVariants as aim
-use Rattle.tsn_argue.specs.declared.fault.Open.{Open}
+use Rattle.tsn_check.specs.declared.argument.Open.{Open}
 use Rattle.tsn_argue.specs.declared.view.View.{View}
 
 int_le-yes : (a b : ℤ) → a ≤ℤ b → int_le a b ≡ true

@@ -7,8 +7,8 @@ use Rattle.tsn_argue.specs.Faults.{IsFactFault, IsMoveFault, IsWrongStep}
 use Rattle.tsn_argue.specs.State.{view_of, base_of, IsSound, Becomes}
 use Rattle.tsn_argue.specs.Steps.{known_on}
 use Rattle.tsn_argue.specs.declared.view.View.{View}
-use Rattle.tsn_argue.specs.declared.fault.StepFault.{StepFault}
-use Rattle.tsn_argue.specs.declared.fault.StepFault.TheVariants as of_step
+use Rattle.tsn_check.specs.declared.argument.StepFault.{StepFault}
+use Rattle.tsn_check.specs.declared.argument.StepFault.TheVariants as of_step
 
 -- one change after another
 pub then_becomes : (old mid new : View) (between after : model.View) → Becomes old mid between → Becomes mid new after → Becomes old new after

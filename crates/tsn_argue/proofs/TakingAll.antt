@@ -20,11 +20,11 @@ use Rattle.tsn_argue.specs.Motion.{clauses_of, AreFacts}
 use Rattle.tsn_argue.specs.Steps.{TakesMove, TakesMoves, ShowsStep, TakesStep, KeepsClause, IsReady, IsFirst, known_of, view_with, clauses_with, fault_of, FindsOpen}
 use Rattle.tsn_argue.specs.declared.aim.Stop.{Stop}
 use Rattle.tsn_argue.specs.declared.aim.Stop.TheVariants as stop
-use Rattle.tsn_argue.specs.declared.wrong.Wrong.{Wrong}
-use Rattle.tsn_argue.specs.declared.wrong.Wrong.TheVariants as kind
-use Rattle.tsn_argue.specs.declared.fault.StepFault.TheVariants as of_step
-use Rattle.tsn_argue.specs.declared.fault.Open.{Open}
-use Rattle.tsn_argue.specs.declared.fault.ArgumentFault.TheVariants.{Step as StepWrong, Unfinished, Memory}
+use Rattle.tsn_check.specs.declared.wrong.Wrong.{Wrong}
+use Rattle.tsn_check.specs.declared.wrong.Wrong.TheVariants as kind
+use Rattle.tsn_check.specs.declared.argument.StepFault.TheVariants as of_step
+use Rattle.tsn_check.specs.declared.argument.Open.{Open}
+use Rattle.tsn_check.specs.declared.argument.ArgumentFault.TheVariants.{Step as StepWrong, Unfinished, Memory}
 use Rattle.tsn_argue.specs.declared.step.Known.{Known}
 use Rattle.tsn_argue.specs.declared.view.View.{View}
 use Rattle.tsn_argue.proofs.Ordered.{told_at}

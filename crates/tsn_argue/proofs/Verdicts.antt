@@ -16,7 +16,7 @@ use Rattle.tsn_check.specs.Plans.{IsPlanRight, IsOptimalPlan, IsFirstPlan}
 use Rattle.tsn_check.specs.declared.verdict.Verdict.TheVariants.{Optimal, First, NoSchedule}
 use Rattle.tsn_argue.specs.Certified.{goal_for, IsFitting, ArgumentCertifies, argument_verdict}
 use Rattle.tsn_argue.specs.Faults.{IsArgumentFault, IsWhy}
-use Rattle.tsn_argue.specs.declared.fault.ArgumentFault.{ArgumentFault}
+use Rattle.tsn_check.specs.declared.argument.ArgumentFault.{ArgumentFault}
 use Rattle.tsn_argue.specs.Told.{Event, with_told, told_of}
 
 -- ---- what a goal shows of a plan

@@ -7,7 +7,7 @@ use Rattle.tsn_argue.specs.Certified.{IsFitting}
 use Rattle.tsn_argue.specs.Faults.{IsWrongAim}
 use Rattle.tsn_argue.specs.Steps.{goal_of, IsAim}
 use Rattle.tsn_argue.specs.declared.aim.Aim.{Aim}
-use Rattle.tsn_argue.specs.declared.fault.ArgumentFault.{ArgumentFault}
+use Rattle.tsn_check.specs.declared.argument.ArgumentFault.{ArgumentFault}
 
 -- the target is the plan's and the goal fits it, or one of them doesn't
 abbrev pub FindsAim : Network → Plan → Argument → Result Aim ArgumentFault → Type 0

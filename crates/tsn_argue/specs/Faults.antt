@@ -4,7 +4,7 @@
 --     IsWrongOrder, IsWrongMove                        what is wrong with a move on a view
 --     IsWrongStep, IsOpen                              what is wrong with a step, and what all steps leave in question
 --     IsArgumentFault, IsWhy                           the first fault of an argument, and of a plan and an argument
---     code_of, IsShowFault, IsFirstFault               the same as a fault of a certificate, and of a certificate of either kind
+--     IsShowFault, IsFirstFault                        the same as a fault of a certificate, and of a certificate of either kind
 use Rattle.std.specs.Prelude.{◌≡◌, ◌≢◌, ◌⊎◌, ℕ, ◌<◌, ◌≤◌, List, [], ◌∷◌, ◌++◌, length, ℤ, pos, ◌+ℤ◌, ◌≤ℤ◌, ◌<ℤ◌, None, Bool, true, false, All, AllPairs, Contains}
 use Rattle.tsn_model.specs.declared.Arc.{Arc}
 use Rattle.tsn_model.specs.declared.Decision.{Decision}
@@ -25,19 +25,18 @@ use Rattle.tsn_check.specs.Faults as tree
 use Rattle.tsn_check.specs.Plans.{offsets_in, IsPlanRight}
 use Rattle.tsn_argue.specs.Certified.{goal_for, IsFitting}
 use Rattle.tsn_check.specs.Faults.{IsWrongClaim}
-use Rattle.tsn_check.specs.Numbers.{plan_code}
+use Rattle.tsn_check.specs.Numbers.{argument_code}
 use Rattle.tsn_check.specs.declared.why.PlanFault.{PlanFault}
 use Rattle.tsn_check.specs.declared.fault.CheckFault.{CheckFault}
-use Rattle.tsn_check.specs.declared.fault.CheckFault.TheVariants as code
 use Rattle.tsn_argue.specs.First.{IsFirstWrong, IsFirstTold}
-use Rattle.tsn_argue.specs.declared.wrong.Wrong.{Wrong}
-use Rattle.tsn_argue.specs.declared.wrong.Wrong.TheVariants as kind
-use Rattle.tsn_argue.specs.declared.fault.StepFault.{StepFault}
-use Rattle.tsn_argue.specs.declared.fault.StepFault.TheVariants as of_step
-use Rattle.tsn_argue.specs.declared.fault.Open.{Open}
-use Rattle.tsn_argue.specs.declared.fault.Open.TheVariants as open_as
-use Rattle.tsn_argue.specs.declared.fault.ArgumentFault.{ArgumentFault}
-use Rattle.tsn_argue.specs.declared.fault.ArgumentFault.TheVariants as why
+use Rattle.tsn_check.specs.declared.wrong.Wrong.{Wrong}
+use Rattle.tsn_check.specs.declared.wrong.Wrong.TheVariants as kind
+use Rattle.tsn_check.specs.declared.argument.StepFault.{StepFault}
+use Rattle.tsn_check.specs.declared.argument.StepFault.TheVariants as of_step
+use Rattle.tsn_check.specs.declared.argument.Open.{Open}
+use Rattle.tsn_check.specs.declared.argument.Open.TheVariants as open_as
+use Rattle.tsn_check.specs.declared.argument.ArgumentFault.{ArgumentFault}
+use Rattle.tsn_check.specs.declared.argument.ArgumentFault.TheVariants as why
 
 -- ---- facts
 
@@ -257,43 +256,8 @@ IsWhy network plan argument fault =
 
 -- ---- as a fault of a certificate
 
--- what is wrong in step k
-abbrev pub wrong_code : ℕ → Wrong → CheckFault
-wrong_code k kind.Crossed = code.TreeTooLong k
-wrong_code k (kind.NoConflict decision) = code.NotConflict k
-wrong_code k (kind.NoOrder decision) = code.ChainBroken k
-wrong_code k (kind.NoClause number shown) = code.ChainBroken k
-wrong_code k (kind.NotAmong frame) = code.ChainBroken k
-wrong_code k kind.NoneChosen = code.ChainBroken k
-wrong_code k kind.NotClosed = code.ChainBroken k
-wrong_code k (kind.Left number left) = code.BoundTooLow k
-wrong_code k (kind.Weight weight) = code.BoundTooLow k
-wrong_code k (kind.InReach stream least most) = code.BoundTooLow k
-wrong_code k kind.OfOthers = code.BoundTooLow k
-wrong_code k (kind.Stronger decision asked known) = code.BoundTooLow k
-wrong_code k (kind.Room link bound end of_others) = code.BoundTooLow k
-wrong_code k (kind.Repeated frame) = code.StreamRepeated k
-wrong_code k (kind.NoStream stream) = code.NotOnLink k
-wrong_code k (kind.NotOnLink stream link) = code.NotOnLink k
-wrong_code k (kind.NoFrame frame) = code.NotOnLink k
-
--- what is wrong with step k
-abbrev pub step_code : ℕ → StepFault → CheckFault
-step_code k of_step.Settled = code.TreeTooLong k
-step_code k (of_step.Fact number wrong) = wrong_code k wrong
-step_code k (of_step.Move number wrong) = wrong_code k wrong
-step_code k of_step.Unshown = code.BoundTooLow k
-
-abbrev pub code_of : ArgumentFault → CheckFault
-code_of (why.Plan wrong) = plan_code wrong
-code_of (why.Target stated wanted) = code.FlowspanWrong
-code_of (why.Goal goal) = code.FlowspanWrong
-code_of (why.Step k fault) = step_code k fault
-code_of (why.Unfinished count left) = code.TreeUnfinished count
-code_of why.Memory = code.Memory
-
 abbrev pub IsShowFault : Network → Plan → Argument → CheckFault → Type 0
-IsShowFault network plan argument fault = (reason : ArgumentFault) × IsWhy network plan argument reason × (fault ≡ code_of reason)
+IsShowFault network plan argument fault = (reason : ArgumentFault) × IsWhy network plan argument reason × (fault ≡ argument_code reason)
 
 -- the first fault of a plan and a certificate of either kind
 abbrev pub IsFirstFault : Network → Plan → Certificate → CheckFault → Type 0

@@ -7,7 +7,7 @@ use Rattle.tsn_model.specs.Argument.{AreOn, AreSome}
 use Rattle.tsn_argue.specs.Faults.{IsOffLink, IsWrongFrame, AreWrongOn, IsWrongChoice, AreWrongAmong}
 use Rattle.tsn_argue.specs.Seen.{Tells}
 use Rattle.tsn_argue.specs.declared.seen.Seen.{Seen}
-use Rattle.tsn_argue.specs.declared.wrong.Wrong.{Wrong}
+use Rattle.tsn_check.specs.declared.wrong.Wrong.{Wrong}
 
 -- the frame is on the link, or it is told why it isn't
 abbrev pub FindsOn : Network → ℕ → Frame → Result Unit Wrong → Type 0

@@ -7,7 +7,7 @@ use Rattle.tsn_cert.specs.declared.certificate.Certificate.{Certificate}
 use Rattle.tsn_check.specs.declared.fault.CheckFault.{CheckFault}
 use Rattle.tsn_argue.specs.Certified.{ArgumentCertifies, Certifies}
 use Rattle.tsn_argue.specs.Faults.{IsWhy, IsFirstFault}
-use Rattle.tsn_argue.specs.declared.fault.ArgumentFault.{ArgumentFault}
+use Rattle.tsn_check.specs.declared.argument.ArgumentFault.{ArgumentFault}
 
 -- a plan and a certificate with a first fault show nothing, and have no other first fault
 abbrev pub FirstFaultsRefute : Type 0

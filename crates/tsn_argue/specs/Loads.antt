@@ -7,7 +7,7 @@ use Rattle.tsn_argue.specs.Faults.{HasRoom}
 use Rattle.tsn_argue.specs.Motion.{facts_of}
 use Rattle.tsn_argue.specs.declared.link.Load.{Load}
 use Rattle.tsn_argue.specs.declared.motion.Shown.{Shown}
-use Rattle.tsn_argue.specs.declared.wrong.Wrong.{Wrong}
+use Rattle.tsn_check.specs.declared.wrong.Wrong.{Wrong}
 
 -- their head, their end and their work, none of which is long
 pub record IsLoad (network : Network) (view : View) (link : ℕ) (frames : List Frame) (load : Load) : Type 0 where

@@ -16,8 +16,8 @@ use Rattle.tsn_cert.specs.declared.motion.Placing.{Placing}
 use Rattle.tsn_argue.specs.News.{news_of}
 use Rattle.tsn_argue.specs.Faults.{IsWrongMove, IsUnclosed, AreWrongOn, AreWrongAmong, GoRound}
 use Rattle.tsn_argue.specs.declared.news.News.{News}
-use Rattle.tsn_argue.specs.declared.wrong.Wrong.{Wrong}
-use Rattle.tsn_argue.specs.declared.wrong.Wrong.TheVariants as kind
+use Rattle.tsn_check.specs.declared.wrong.Wrong.{Wrong}
+use Rattle.tsn_check.specs.declared.wrong.Wrong.TheVariants as kind
 use Rattle.tsn_argue.specs.declared.motion.Basis.{Basis}
 use Rattle.tsn_argue.specs.declared.motion.Shown.{Shown}
 use Rattle.tsn_argue.specs.State.{view_of}

@@ -15,12 +15,12 @@ use Rattle.tsn_argue.specs.declared.aim.Aim.{Aim}
 use Rattle.tsn_argue.specs.declared.aim.Aim.TheVariants as aim
 use Rattle.tsn_argue.specs.declared.aim.Stop.{Stop}
 use Rattle.tsn_argue.specs.declared.aim.Stop.TheVariants as stop
-use Rattle.tsn_argue.specs.declared.wrong.Wrong.{Wrong}
-use Rattle.tsn_argue.specs.declared.fault.StepFault.{StepFault}
-use Rattle.tsn_argue.specs.declared.fault.StepFault.TheVariants as of_step
-use Rattle.tsn_argue.specs.declared.fault.Open.{Open}
-use Rattle.tsn_argue.specs.declared.fault.ArgumentFault.{ArgumentFault}
-use Rattle.tsn_argue.specs.declared.fault.ArgumentFault.TheVariants as why
+use Rattle.tsn_check.specs.declared.wrong.Wrong.{Wrong}
+use Rattle.tsn_check.specs.declared.argument.StepFault.{StepFault}
+use Rattle.tsn_check.specs.declared.argument.StepFault.TheVariants as of_step
+use Rattle.tsn_check.specs.declared.argument.Open.{Open}
+use Rattle.tsn_check.specs.declared.argument.ArgumentFault.{ArgumentFault}
+use Rattle.tsn_check.specs.declared.argument.ArgumentFault.TheVariants as why
 use Rattle.tsn_argue.specs.declared.step.Known.{Known}
 use Rattle.tsn_argue.specs.declared.view.View.{View}
 

@@ -2,7 +2,7 @@
 ghost use Rattle.std.specs.Prelude.{◌≡◌};
 ghost use Rattle.tsn_argue.specs.Steps.{fault_of};
 
-use crate::fault::{ArgumentFault, StepFault};
+use tsn_check::{ArgumentFault, StepFault};
 use tsn_model::NoMemory;
 
 /// What is to be shown: that a plan of this flowspan, in nanoseconds, is the first of the optimal schedules; that none has a

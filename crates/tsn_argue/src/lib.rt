@@ -3,7 +3,6 @@
 
 mod aim;
 mod decided;
-mod fault;
 pub mod laws;
 mod link;
 mod listener;
@@ -15,13 +14,10 @@ mod step;
 mod uses;
 mod verdict;
 mod view;
-mod wrong;
 
-pub use fault::{ArgumentFault, Open, StepFault};
 pub use listener::{Listener, Silent};
 pub use motion::{Shown, read_first, read_second};
 pub use news::{News, turned};
 pub use uses::{Reader, Use};
 pub use verdict::{check_argument, check_certificate, hear_argument, judge_argument};
 pub use view::View;
-pub use wrong::Wrong;

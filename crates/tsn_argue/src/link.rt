@@ -11,7 +11,7 @@ ghost use Rattle.tsn_argue.specs.Frames.{FindsOn, FindsFrame, FindsFrames, Finds
 
 use crate::seen::Seen;
 use crate::view::View;
-use crate::wrong::Wrong;
+use tsn_check::Wrong;
 use tsn_model::Frame;
 use tsn_timing::Timing;
 

@@ -12,12 +12,11 @@ ghost use Rattle.tsn_argue.specs.Steps.{goal_of, IsAim, IsReady, IsFirst, capped
 ghost use Rattle.tsn_argue.specs.Told.{makes, told_moves, told_shown, told_step, told_of, with_told};
 
 use crate::aim::{Aim, Stop};
-use crate::fault::{ArgumentFault, Open, StepFault};
 use crate::listener::Listener;
 use crate::motion::{Shown, judge};
 use crate::news::News;
 use crate::view::View;
-use crate::wrong::Wrong;
+use tsn_check::{ArgumentFault, Open, StepFault, Wrong};
 use std::alloc::{AllocError, Global};
 use tsn_cert::{Clause, Fact, Move, Step};
 use tsn_model::NoMemory;

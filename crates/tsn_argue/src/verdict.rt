@@ -10,12 +10,11 @@ ghost use Rattle.tsn_argue.specs.Aims.{FindsAim};
 ghost use Rattle.tsn_argue.specs.Told.{told_of, with_told};
 
 use crate::aim::Aim;
-use crate::fault::ArgumentFault;
 use crate::listener::{Listener, Silent};
 use crate::step::check_steps;
 use std::alloc::Global;
 use tsn_cert::{Argument, Certificate, Goal, Plan};
-use tsn_check::{CheckFault, Verdict, check, judge_claim};
+use tsn_check::{ArgumentFault, CheckFault, Verdict, check, judge_claim};
 use tsn_timing::{Problem, Timing};
 
 /// Whether the certificate, a tree or an argument, shows that the plan is optimal, or the first of the optimal schedules, or

@@ -1,6 +1,7 @@
 pub mod Json
 pub mod Form
 pub mod Fault
+pub mod Told
 pub mod Plan
 pub mod Depths
 pub mod Leaf

@@ -16,6 +16,7 @@ pub mod listed;
 pub mod motion;
 pub mod order;
 pub mod plan;
+pub mod refused;
 pub mod step;
 
 pub use argument::{Argument, Goal};
@@ -31,4 +32,5 @@ pub use listed::{Listed, Sequence};
 pub use motion::{Frames, Move, Moves, Placing};
 pub use order::{Order, Orders};
 pub use plan::{Offsets, Plan};
+pub use refused::{Excess, Key, Misfit, Part, Refused};
 pub use step::{Step, Steps};

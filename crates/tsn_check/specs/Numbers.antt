@@ -8,6 +8,12 @@ use Rattle.tsn_check.specs.declared.why.NodeFault.{NodeFault}
 use Rattle.tsn_check.specs.declared.why.NodeFault.TheVariants as of_node
 use Rattle.tsn_check.specs.declared.why.TreeFault.{TreeFault}
 use Rattle.tsn_check.specs.declared.why.TreeFault.TheVariants as why
+use Rattle.tsn_check.specs.declared.wrong.Wrong.{Wrong}
+use Rattle.tsn_check.specs.declared.wrong.Wrong.TheVariants as kind
+use Rattle.tsn_check.specs.declared.argument.StepFault.{StepFault}
+use Rattle.tsn_check.specs.declared.argument.StepFault.TheVariants as of_step
+use Rattle.tsn_check.specs.declared.argument.ArgumentFault.{ArgumentFault}
+use Rattle.tsn_check.specs.declared.argument.ArgumentFault.TheVariants as of_argument
 
 -- the number of a fault
 abbrev pub number_of : CheckFault → ℕ
@@ -61,3 +67,38 @@ code_of (why.Unfinished k) = TreeUnfinished k
 code_of (why.TooLong k) = TreeTooLong k
 code_of (why.Node k fault) = node_code k fault
 code_of why.Memory = Memory
+
+-- what is wrong in step k
+abbrev pub wrong_code : ℕ → Wrong → CheckFault
+wrong_code k kind.Crossed = TreeTooLong k
+wrong_code k (kind.NoConflict decision) = NotConflict k
+wrong_code k (kind.NoOrder decision) = ChainBroken k
+wrong_code k (kind.NoClause number shown) = ChainBroken k
+wrong_code k (kind.NotAmong frame) = ChainBroken k
+wrong_code k kind.NoneChosen = ChainBroken k
+wrong_code k kind.NotClosed = ChainBroken k
+wrong_code k (kind.Left number left) = BoundTooLow k
+wrong_code k (kind.Weight weight) = BoundTooLow k
+wrong_code k (kind.InReach stream least most) = BoundTooLow k
+wrong_code k kind.OfOthers = BoundTooLow k
+wrong_code k (kind.Stronger decision asked known) = BoundTooLow k
+wrong_code k (kind.Room link bound end of_others) = BoundTooLow k
+wrong_code k (kind.Repeated frame) = StreamRepeated k
+wrong_code k (kind.NoStream stream) = NotOnLink k
+wrong_code k (kind.NotOnLink stream link) = NotOnLink k
+wrong_code k (kind.NoFrame frame) = NotOnLink k
+
+-- what is wrong with step k
+abbrev pub step_code : ℕ → StepFault → CheckFault
+step_code k of_step.Settled = TreeTooLong k
+step_code k (of_step.Fact number wrong) = wrong_code k wrong
+step_code k (of_step.Move number wrong) = wrong_code k wrong
+step_code k of_step.Unshown = BoundTooLow k
+
+abbrev pub argument_code : ArgumentFault → CheckFault
+argument_code (of_argument.Plan wrong) = plan_code wrong
+argument_code (of_argument.Target stated wanted) = FlowspanWrong
+argument_code (of_argument.Goal goal) = FlowspanWrong
+argument_code (of_argument.Step k fault) = step_code k fault
+argument_code (of_argument.Unfinished count left) = TreeUnfinished count
+argument_code of_argument.Memory = Memory

@@ -18,9 +18,9 @@ use Rattle.tsn_cert.specs.declared.fact.Fact.{Fact}
 use Rattle.tsn_cert.specs.declared.motion.Move.{Move}
 use Rattle.tsn_cert.specs.declared.step.Step.{Step}
 use Rattle.tsn_cert.specs.declared.argument.Argument.{Argument}
-use Rattle.tsn_codec.specs.declared.refused.Part.{Part}
-use Rattle.tsn_codec.specs.declared.refused.Part.TheVariants as part
-use Rattle.tsn_codec.specs.declared.refused.Excess.TheVariants as excess
+use Rattle.tsn_cert.specs.declared.refused.Part.{Part}
+use Rattle.tsn_cert.specs.declared.refused.Part.TheVariants as part
+use Rattle.tsn_cert.specs.declared.refused.Excess.TheVariants as excess
 use Rattle.tsn_codec.specs.Matter.{IsPlanExcess, IsTreeExcess, IsStepExcess, IsArgumentExcess, node_lags, fact_lags, move_lags}
 use Rattle.tsn_codec.proofs.Firsts.{none_fails, one_fails, first_read, first_seen}
 

@@ -15,9 +15,9 @@ use Rattle.std.proofs.lemmas.Slice.Eq.{bytes_eq-Decides}
 use Rattle.serde_json.specs.Data.{Data, null, boolean, number, string, array, object, Members, no_members, member}
 use Rattle.serde_json.specs.Find.{get_member, as_object}
 use Rattle.tsn_cert.specs.Json.{member_count, is_object_of}
-use Rattle.tsn_codec.specs.Told.{key_name}
+use Rattle.tsn_cert.specs.Told.{key_name}
 use Rattle.tsn_codec.specs.Matter.{member_names, absent_key, other_name, plan_keys, tree_keys, argument_keys}
-use Rattle.tsn_codec.specs.declared.refused.Key.{Key}
+use Rattle.tsn_cert.specs.declared.refused.Key.{Key}
 
 abbrev same_name : List ℕ → List ℕ → Bool
 same_name = eq_by_cmp (slice_cmp nat_cmp)

@@ -10,11 +10,11 @@ use Rattle.tsn_cert.specs.Json.{whole_number, is_null, is_object_of}
 use Rattle.tsn_cert.specs.Fault.{named}
 use Rattle.tsn_cert.specs.declared.fault.FileFault.TheVariants as fault
 use Rattle.tsn_codec.proofs.JsonLemmas.{named_ok}
-use Rattle.tsn_codec.specs.declared.refused.Key.TheVariants as key
-use Rattle.tsn_codec.specs.declared.refused.Misfit.{Misfit}
-use Rattle.tsn_codec.specs.declared.refused.Misfit.TheVariants as misfit
-use Rattle.tsn_codec.specs.declared.refused.Refused.{Refused}
-use Rattle.tsn_codec.specs.declared.refused.Refused.TheVariants.{NotJson, WrongShape, NumberTooLarge, Memory}
+use Rattle.tsn_cert.specs.declared.refused.Key.TheVariants as key
+use Rattle.tsn_cert.specs.declared.refused.Misfit.{Misfit}
+use Rattle.tsn_cert.specs.declared.refused.Misfit.TheVariants as misfit
+use Rattle.tsn_cert.specs.declared.refused.Refused.{Refused}
+use Rattle.tsn_cert.specs.declared.refused.Refused.TheVariants.{NotJson, WrongShape, NumberTooLarge, Memory}
 use Rattle.tsn_codec.specs.Matter.{IsWhy, member_names, names_in, at, IsOffsetsMisfit, IsValuesMisfit, IsPlanMisfit, HasJust, plan_keys, IsRead, tree_keys, IsNodesMisfit, IsTreeMisfit, argument_keys, IsOfArgument, IsStepsMisfit, IsArgumentMisfit}
 use Rattle.tsn_cert.specs.Cert.{format_of}
 use Rattle.tsn_cert.specs.Argument.{goal_of}

@@ -23,12 +23,12 @@ use Rattle.tsn_codec.specs.Lists.{Stops}
 use Rattle.tsn_codec.specs.Matter.{is_pair, are_lists, element_at, IsFirstOther, IsStepMisfit, IsStepsMisfit, IsWhy}
 use Rattle.tsn_codec.specs.Steps.{of_step, moves_end, HasNoMoves, StopsMoves, MovesStop, parts_end, PartsStop, StepStops, StandsBehind, StopsBehind, StopsSteps, TakesArray, TakesStep, unread_of}
 use Rattle.tsn_codec.specs.Takes.{FaultOf}
-use Rattle.tsn_codec.specs.Told.{Finds}
-use Rattle.tsn_codec.specs.declared.refused.Misfit.{Misfit}
-use Rattle.tsn_codec.specs.declared.refused.Part.{Part}
-use Rattle.tsn_codec.specs.declared.refused.Part.TheVariants as part
-use Rattle.tsn_codec.specs.declared.refused.Refused.{Refused}
-use Rattle.tsn_codec.specs.declared.refused.Refused.TheVariants.{NotJson, WrongShape, NumberTooLarge, Memory}
+use Rattle.tsn_cert.specs.Told.{Finds}
+use Rattle.tsn_cert.specs.declared.refused.Misfit.{Misfit}
+use Rattle.tsn_cert.specs.declared.refused.Part.{Part}
+use Rattle.tsn_cert.specs.declared.refused.Part.TheVariants as part
+use Rattle.tsn_cert.specs.declared.refused.Refused.{Refused}
+use Rattle.tsn_cert.specs.declared.refused.Refused.TheVariants.{NotJson, WrongShape, NumberTooLarge, Memory}
 use Rattle.tsn_codec.proofs.Lists.{stops_none, stops_value, stops_items, stops_first, first_stop, NextItem, next_item, says_of, says_none, says_some, whole_array, no_array, array_inside}
 use Rattle.tsn_codec.proofs.Firsts.{placed_first}
 use Rattle.tsn_codec.proofs.Pairs.{both_same, never_some}

@@ -13,11 +13,11 @@ use Rattle.tsn_cert.specs.Certificate.{certificate_of, tree_or}
 use Rattle.tsn_cert.specs.declared.cert.Cert.{Cert}
 use Rattle.tsn_cert.specs.declared.argument.Argument.{Argument}
 use Rattle.tsn_cert.specs.declared.certificate.Certificate.TheVariants as kind
-use Rattle.tsn_codec.specs.Told.{code_of}
-use Rattle.tsn_codec.specs.declared.refused.Excess.{Excess}
-use Rattle.tsn_codec.specs.declared.refused.Misfit.{Misfit}
-use Rattle.tsn_codec.specs.declared.refused.Refused.{Refused}
-use Rattle.tsn_codec.specs.declared.refused.Refused.TheVariants.{NotJson, WrongShape, NumberTooLarge, Memory}
+use Rattle.tsn_cert.specs.Told.{code_of}
+use Rattle.tsn_cert.specs.declared.refused.Excess.{Excess}
+use Rattle.tsn_cert.specs.declared.refused.Misfit.{Misfit}
+use Rattle.tsn_cert.specs.declared.refused.Refused.{Refused}
+use Rattle.tsn_cert.specs.declared.refused.Refused.TheVariants.{NotJson, WrongShape, NumberTooLarge, Memory}
 use Rattle.tsn_codec.specs.Matter.{IsWhy, IsToldOf, IsToldOfCertificate, IsTreeExcess, IsArgumentExcess, IsOfArgument, IsArgumentMisfit, IsTreeMisfit, IsMisfit}
 use Rattle.tsn_codec.proofs.JsonLemmas.{named_ok}
 use Rattle.tsn_codec.proofs.Plain.{followed}

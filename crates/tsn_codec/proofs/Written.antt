@@ -24,8 +24,8 @@ use Rattle.tsn_cert.proofs.SpelledLemmas.{converted_some}
 use Rattle.tsn_codec.specs.CertSays.{format_says, node_element}
 use Rattle.tsn_cert.proofs.ArgumentSays.{goal_says, steps_says}
 use Rattle.tsn_codec.specs.Written.{ArePlain, HasAs, HasAt, BeginsTree, BeginsArgument, EndsWithTarget, StopsNodes, ArgumentStops, IsNoCertificate}
-use Rattle.tsn_codec.specs.declared.refused.Misfit.{Misfit}
-use Rattle.tsn_codec.specs.declared.refused.Misfit.TheVariants as misfit
+use Rattle.tsn_cert.specs.declared.refused.Misfit.{Misfit}
+use Rattle.tsn_cert.specs.declared.refused.Misfit.TheVariants as misfit
 use Rattle.tsn_codec.specs.Matter.{is_of, IsTreeMisfit, IsMisfit}
 use Rattle.tsn_codec.proofs.Nodes.{stops_nodes, no_nodes}
 use Rattle.tsn_codec.proofs.Misfits.{steps_up}

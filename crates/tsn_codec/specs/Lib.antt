@@ -1,5 +1,4 @@
 pub mod Takes
-pub mod Told
 pub mod Lists
 pub mod Places
 pub mod Steps

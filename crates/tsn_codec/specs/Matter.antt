@@ -33,17 +33,17 @@ use Rattle.tsn_cert.specs.declared.step.Step.{Step}
 use Rattle.tsn_cert.specs.declared.argument.Argument.{Argument}
 use Rattle.tsn_cert.specs.declared.certificate.Certificate.{Certificate}
 use Rattle.tsn_cert.specs.declared.certificate.Certificate.TheVariants as kind
-use Rattle.tsn_codec.specs.Told.{key_name}
-use Rattle.tsn_codec.specs.declared.refused.Key.{Key}
-use Rattle.tsn_codec.specs.declared.refused.Key.TheVariants as key
-use Rattle.tsn_codec.specs.declared.refused.Misfit.{Misfit}
-use Rattle.tsn_codec.specs.declared.refused.Misfit.TheVariants as misfit
-use Rattle.tsn_codec.specs.declared.refused.Refused.{Refused}
-use Rattle.tsn_codec.specs.declared.refused.Refused.TheVariants.{WrongShape, NumberTooLarge, Memory}
-use Rattle.tsn_codec.specs.declared.refused.Part.{Part}
-use Rattle.tsn_codec.specs.declared.refused.Part.TheVariants as part
-use Rattle.tsn_codec.specs.declared.refused.Excess.{Excess}
-use Rattle.tsn_codec.specs.declared.refused.Excess.TheVariants as excess
+use Rattle.tsn_cert.specs.Told.{key_name}
+use Rattle.tsn_cert.specs.declared.refused.Key.{Key}
+use Rattle.tsn_cert.specs.declared.refused.Key.TheVariants as key
+use Rattle.tsn_cert.specs.declared.refused.Misfit.{Misfit}
+use Rattle.tsn_cert.specs.declared.refused.Misfit.TheVariants as misfit
+use Rattle.tsn_cert.specs.declared.refused.Refused.{Refused}
+use Rattle.tsn_cert.specs.declared.refused.Refused.TheVariants.{WrongShape, NumberTooLarge, Memory}
+use Rattle.tsn_cert.specs.declared.refused.Part.{Part}
+use Rattle.tsn_cert.specs.declared.refused.Part.TheVariants as part
+use Rattle.tsn_cert.specs.declared.refused.Excess.{Excess}
+use Rattle.tsn_cert.specs.declared.refused.Excess.TheVariants as excess
 
 -- the element of this number is x, and the first of the list that fails the test
 abbrev pub IsFirstWithout : {A : Type 0} → (A → Bool) → List A → ℕ → A → Type 0

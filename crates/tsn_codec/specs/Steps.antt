@@ -13,13 +13,13 @@ use Rattle.tsn_cert.specs.declared.step.Step.{Step}
 use Rattle.tsn_codec.specs.Lists.{Stops}
 use Rattle.tsn_codec.specs.declared.tokens.Unread.{Unread}
 use Rattle.tsn_codec.specs.declared.tokens.Unread.TheVariants as other
-use Rattle.tsn_codec.specs.declared.refused.Key.TheVariants as key
-use Rattle.tsn_codec.specs.declared.refused.Misfit.{Misfit}
-use Rattle.tsn_codec.specs.declared.refused.Misfit.TheVariants as misfit
-use Rattle.tsn_codec.specs.declared.refused.Part.{Part}
-use Rattle.tsn_codec.specs.declared.refused.Part.TheVariants as part
-use Rattle.tsn_codec.specs.declared.refused.Refused.{Refused}
-use Rattle.tsn_codec.specs.declared.refused.Refused.TheVariants.{WrongShape, Memory}
+use Rattle.tsn_cert.specs.declared.refused.Key.TheVariants as key
+use Rattle.tsn_cert.specs.declared.refused.Misfit.{Misfit}
+use Rattle.tsn_cert.specs.declared.refused.Misfit.TheVariants as misfit
+use Rattle.tsn_cert.specs.declared.refused.Part.{Part}
+use Rattle.tsn_cert.specs.declared.refused.Part.TheVariants as part
+use Rattle.tsn_cert.specs.declared.refused.Refused.{Refused}
+use Rattle.tsn_cert.specs.declared.refused.Refused.TheVariants.{WrongShape, Memory}
 
 -- what is told of the step of this number: a part of it, or that it is no array of two arrays
 abbrev pub of_step : ℕ → Option Part → Misfit

@@ -12,8 +12,8 @@ use Rattle.tsn_cert.specs.Node.{tree_node}
 use Rattle.tsn_cert.specs.Argument.{goal_form, argument_format, argument_of}
 use Rattle.tsn_cert.specs.declared.cert.Format.{Format}
 use Rattle.tsn_cert.specs.declared.cert.Node.{Node}
-use Rattle.tsn_codec.specs.declared.refused.Misfit.{Misfit}
-use Rattle.tsn_codec.specs.declared.refused.Misfit.TheVariants as misfit
+use Rattle.tsn_cert.specs.declared.refused.Misfit.{Misfit}
+use Rattle.tsn_cert.specs.declared.refused.Misfit.TheVariants as misfit
 use Rattle.tsn_codec.specs.Lists.{Stops}
 use Rattle.tsn_codec.specs.Matter.{is_of, IsMisfit}
 use Rattle.tsn_codec.specs.Steps.{StopsSteps}

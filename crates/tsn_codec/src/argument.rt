@@ -7,7 +7,7 @@ ghost use Rattle.serde_json.specs.Read.{max_depth};
 ghost use Rattle.serde_json.specs.View.{view};
 ghost use Rattle.tsn_cert.specs.Fault.{Gives};
 ghost use Rattle.tsn_codec.specs.Matter.{IsArgumentExcess, IsWhy, IsStepsMisfit, IsArgumentMisfit};
-ghost use Rattle.tsn_codec.specs.Told.{Finds};
+ghost use Rattle.tsn_cert.specs.Told.{Finds};
 ghost use Rattle.tsn_codec.specs.Written.{ArePlain, BeginsArgument, EndsWithTarget, ArgumentStops, IsNoCertificate};
 ghost use Rattle.tsn_cert.specs.Argument.{goal_of, steps_in, steps_form, argument_of, argument_value, argument_fits, argument_in, argument_text};
 ghost use Rattle.tsn_cert.specs.ArgumentLaws.{IsArgumentInGrammar};
@@ -22,13 +22,12 @@ pub mod text;
 use crate::document;
 use crate::file::{self, File};
 use crate::list::array_of;
-use crate::refused::{Excess, Key, Misfit, Refused};
 use crate::tokens::{Tokens, Unread};
 use json::Scratch;
 use serde_json::{Value, json};
 use std::alloc::{AllocError, Global};
 use tsn_cert::argument::ARGUMENT_FORMAT;
-use tsn_cert::{Argument, FileFault, Goal, Step, Steps};
+use tsn_cert::{Argument, Excess, FileFault, Goal, Key, Misfit, Refused, Step, Steps};
 use tsn_model::NoMemory;
 
 // The keys of an argument file.

@@ -9,7 +9,7 @@ ghost use Rattle.tsn_cert.specs.Fault.{Gives};
 ghost use Rattle.tsn_codec.specs.Matter.{IsTreeExcess, IsWhy, IsNodesMisfit, IsTreeMisfit, is_of};
 ghost use Rattle.std.specs.List.{position_or_len};
 ghost use Rattle.tsn_cert.specs.Node.{tree_node};
-ghost use Rattle.tsn_codec.specs.Told.{Finds};
+ghost use Rattle.tsn_cert.specs.Told.{Finds};
 ghost use Rattle.tsn_codec.specs.Written.{ArePlain, BeginsTree, EndsWithTarget, StopsNodes, IsNoCertificate};
 ghost use Rattle.tsn_codec.specs.Places.{nodes_in};
 ghost use Rattle.tsn_cert.specs.Cert.{are_of, format_of, cert_of, cert_fits, cert_in, cert_text};
@@ -22,12 +22,11 @@ pub mod text;
 use crate::document;
 use crate::file::{self, File};
 use crate::list::{Unlisted, array_of, list_in, list_or_why};
-use crate::refused::{Excess, Key, Misfit, Refused};
 use crate::tokens::{Tokens, Unread};
 use json::Scratch;
 use serde_json::Value;
 use std::alloc::Global;
-use tsn_cert::{Cert, FileFault, Format, Node, Nodes};
+use tsn_cert::{Cert, Excess, FileFault, Format, Key, Misfit, Node, Nodes, Refused};
 use tsn_model::NoMemory;
 
 // The keys of the file of a tree.

@@ -8,7 +8,7 @@ ghost use Rattle.tsn_cert.specs.Argument.{argument_of};
 ghost use Rattle.tsn_cert.specs.Fault.{Gives};
 ghost use Rattle.tsn_codec.specs.Matter.{IsWhy, IsOfArgument, IsTreeMisfit, IsMisfit, IsToldOfCertificate};
 ghost use Rattle.std.specs.Bool.{MatchBool};
-ghost use Rattle.tsn_codec.specs.Told.{Tells, Finds};
+ghost use Rattle.tsn_cert.specs.Told.{Tells, Finds};
 ghost use Rattle.tsn_codec.specs.Written.{ArePlain};
 ghost use Rattle.tsn_cert.specs.Certificate.{certificate_fits, certificate_in, certificate_text, is_of_format};
 
@@ -16,13 +16,12 @@ use crate::argument::{self, argument_to_json};
 use crate::cert::{self, cert_to_json};
 use crate::document;
 use crate::file::{self, File};
-use crate::refused::{Misfit, Refused};
 use crate::tokens::{Tokens, Unread};
 use json::Scratch;
 use serde_json::Value;
 use std::alloc::Global;
 use tsn_cert::argument::ARGUMENT_FORMAT;
-use tsn_cert::{Argument, Cert, Certificate, FileFault};
+use tsn_cert::{Argument, Cert, Certificate, FileFault, Misfit, Refused};
 use tsn_model::NoMemory;
 
 // What an argument that is printed begins with.

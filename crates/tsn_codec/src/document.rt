@@ -7,7 +7,7 @@ ghost use Rattle.serde_json.specs.View.{view};
 ghost use Rattle.serde_json.specs.Written.{has_float};
 ghost use Rattle.tsn_cert.specs.Json.{value_of, whole_number, is_object_of, number_value, array_value, file_text};
 ghost use Rattle.tsn_cert.specs.Fault.{named};
-ghost use Rattle.tsn_codec.specs.Told.{key_name, Tells, Finds};
+ghost use Rattle.tsn_cert.specs.Told.{key_name, Tells, Finds};
 ghost use Rattle.tsn_codec.specs.Matter.{IsWhy, IsUnknown, IsObject, absent_key, other_name};
 ghost use Rattle.std.specs.List.{list_any, IsDistinct};
 ghost use Rattle.std.specs.List.Sorted.{IsStrictlySortedBy};
@@ -17,10 +17,9 @@ ghost use Rattle.std.specs.String.{string_cmp};
 ghost use Rattle.std.specs.Str.{bytes_eq};
 ghost use Rattle.std.specs.BTreeMap.{keys as keys_of};
 
-use crate::refused::{Key, Misfit, Refused};
 use serde_json::{Map, ToValue, Value};
 use std::alloc::{AllocError, Global};
-use tsn_cert::FileFault;
+use tsn_cert::{FileFault, Key, Misfit, Refused};
 use tsn_model::NoMemory;
 
 /// The value of a file.

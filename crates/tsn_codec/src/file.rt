@@ -6,14 +6,14 @@ ghost use Rattle.serde_json.specs.View.{view};
 ghost use Rattle.tsn_cert.specs.Json.{value_of};
 ghost use Rattle.tsn_cert.specs.Spelled.{Spells};
 ghost use Rattle.tsn_cert.specs.Fault.{shaped, answer};
-ghost use Rattle.tsn_codec.specs.Told.{Tells, Finds};
+ghost use Rattle.tsn_cert.specs.Told.{Tells, Finds};
 ghost use Rattle.tsn_codec.specs.Matter.{FindsExcess, IsWhy};
-ghost use Rattle.tsn_codec.specs.declared.refused.Misfit.{Misfit};
-ghost use Rattle.tsn_codec.specs.declared.refused.Excess.{Excess};
+ghost use Rattle.tsn_cert.specs.declared.refused.Misfit.{Misfit};
+ghost use Rattle.tsn_cert.specs.declared.refused.Excess.{Excess};
 ghost use Rattle.tsn_codec.specs.Written.{PassesTarget, EndsWithTarget};
 
 use crate::document;
-use crate::refused::{Excess, Refused};
+use tsn_cert::{Excess, Refused};
 use crate::tokens::{Tokens, Unread};
 use json::Scratch;
 use serde_json::Value;

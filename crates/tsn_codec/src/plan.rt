@@ -4,19 +4,18 @@ ghost use Rattle.serde_json.specs.Data.{depth};
 ghost use Rattle.serde_json.specs.Read.{max_depth};
 ghost use Rattle.serde_json.specs.View.{view};
 ghost use Rattle.tsn_cert.specs.Fault.{Gives};
-ghost use Rattle.tsn_codec.specs.Told.{Tells, Finds};
+ghost use Rattle.tsn_cert.specs.Told.{Tells, Finds};
 ghost use Rattle.tsn_cert.specs.Json.{numbers};
 ghost use Rattle.tsn_cert.specs.Plan.{plan_of, plan_of_values, plan_fits, plan_in, plan_value, plan_text, max_time};
 ghost use Rattle.tsn_codec.specs.Matter.{FindsExcess, IsPlanExcess, IsWhy, IsOffsetsMisfit, IsValuesMisfit, IsPlanMisfit, IsToldOfPlan};
 
 use crate::document;
 use crate::list::{Element, Unlisted, array_of, list_in};
-use crate::refused::{Excess, Key, Misfit, Refused};
 use crate::tokens::{Tokens, Unread};
 use serde_json::{Value, json};
 use std::alloc::{AllocError, Global};
 use tsn_cert::plan::MAX_TIME;
-use tsn_cert::{FileFault, Offsets, Plan};
+use tsn_cert::{Excess, FileFault, Key, Misfit, Offsets, Plan, Refused};
 use tsn_model::NoMemory;
 
 // The keys of a plan file.

@@ -6,7 +6,7 @@ use crate::wrong::push_wrong;
 use crate::{Reason, Written};
 use std::alloc::Global;
 use std::fmt::Write;
-use tsn_argue::{ArgumentFault, Open, StepFault};
+use tsn_check::{ArgumentFault, Open, StepFault};
 use tsn_cert::Goal;
 use tsn_model::NoMemory;
 use tsn_text::line_of;

@@ -7,7 +7,7 @@ use std::fmt::Write;
 use tsn_cert::chain::MAX_NUMBER;
 use tsn_cert::limits::MAX_LAG;
 use tsn_cert::plan::MAX_TIME;
-use tsn_codec::{Excess, Misfit, Part, Refused};
+use tsn_cert::{Excess, Misfit, Part, Refused};
 use tsn_model::NoMemory;
 use tsn_text::{TextBuilder, line_of, push_name};
 

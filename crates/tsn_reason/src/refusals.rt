@@ -1,14 +1,13 @@
 //! Why a file, a plan or a certificate is refused.
 ghost use Rattle.std.specs.Prelude.{◌≡◌, IfOk, IsErr, Ok};
-ghost use Rattle.tsn_codec.specs.Told.{code_of};
+ghost use Rattle.tsn_cert.specs.Told.{code_of};
 ghost use Rattle.tsn_given.specs.Outcome.{IsOutcome, output_of};
 
 use crate::Reason;
 use crate::file_words::file_line;
 use std::alloc::Global;
-use tsn_cert::FileFault;
+use tsn_cert::{FileFault, Refused};
 use tsn_check::CheckFault;
-use tsn_codec::Refused;
 use tsn_given::{Answer, FileKind, Outcome};
 use tsn_model::NoMemory;
 use tsn_net::{Code, NetFault};

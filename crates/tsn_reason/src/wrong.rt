@@ -3,7 +3,7 @@
 use crate::Written;
 use crate::names::{FrameName, Later, LinkName, StreamName};
 use std::fmt::Write;
-use tsn_argue::Wrong;
+use tsn_check::Wrong;
 use tsn_model::{Decision, Frame, Side};
 use tsn_timing::Problem;
 

@@ -6,9 +6,8 @@ ghost use Rattle.tsn_cert.specs.Argument.{step_fits, argument_fits};
 ghost use Rattle.tsn_codec.specs.Matter.{fact_lags, FindsExcess, IsStepExcess, IsArgumentExcess};
 
 use crate::argument::motion;
-use crate::refused::{Excess, Key, Part};
 use tsn_cert::plan::MAX_TIME;
-use tsn_cert::{Argument, Fact, Limited, Move, Step};
+use tsn_cert::{Argument, Excess, Fact, Key, Limited, Move, Part, Step};
 
 // Whether the fact has a lag other than 0.
 fn has_fact_lag(fact: Fact) -> bool

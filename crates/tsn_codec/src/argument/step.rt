@@ -6,11 +6,10 @@ ghost use Rattle.tsn_codec.specs.Steps.{TakesStep, MovesStop, moves_end, PartsSt
 ghost use Rattle.tsn_codec.specs.Takes.{Takes};
 
 use crate::list::{Element, Unlisted, array_of, list_or_why};
-use crate::refused::{Key, Misfit, Part, Refused};
 use crate::tokens::{Tokens, Unread};
 use serde_json::{Value, json};
 use std::alloc::{AllocError, Global};
-use tsn_cert::{Clause, Fact, Move, Moves, Step, Steps};
+use tsn_cert::{Clause, Fact, Key, Misfit, Move, Moves, Part, Refused, Step, Steps};
 
 impl Element for Step {
     ghost use Rattle.tsn_cert.specs.declared.step.Step.{Step};

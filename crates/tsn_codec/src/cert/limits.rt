@@ -8,10 +8,9 @@ ghost use Rattle.tsn_cert.specs.Node.{tree_node};
 ghost use Rattle.tsn_cert.specs.Cert.{triple_fits, entry_fits, leaf_fits, node_fits, max_number, cert_fits};
 ghost use Rattle.tsn_codec.specs.Matter.{node_lags, FindsExcess, IsTreeExcess};
 
-use crate::refused::{Excess, Key};
 use tsn_cert::chain::{Chain, MAX_NUMBER};
 use tsn_cert::plan::MAX_TIME;
-use tsn_cert::{Cert, Entries, Entry, Leaf, LowerBound, Node, limits};
+use tsn_cert::{Cert, Entries, Entry, Excess, Key, Leaf, LowerBound, Node, limits};
 use tsn_model::Triple;
 
 fn chain_fits(chain: &Chain) -> bool

@@ -3,7 +3,7 @@ use Rattle.std.proofs.lemmas.Int.{ints}
 use Rattle.tsn_model.specs.declared.Arc.{Arc}
 use Rattle.tsn_model.specs.Arcs.{arc_of}
 use Rattle.tsn_argue.specs.Faults.{AsksMore}
-use Rattle.tsn_argue.specs.declared.wrong.Wrong.TheVariants.{Stronger}
+use Rattle.tsn_check.specs.declared.wrong.Wrong.TheVariants.{Stronger}
 use Rattle.tsn_argue.proofs.motion.judge_follow.Goals as goal
 
 pub returns-else-other-arc : goal.returns-else-other-arc

@@ -5,7 +5,7 @@ use Rattle.std.proofs.lemmas.Int.{ints}
 use Rattle.tsn_model.specs.Schedule.{IsConflict}
 use Rattle.tsn_model.specs.Arcs.{arc_of}
 use Rattle.tsn_model.specs.Argument.{low_at, high_at, shown}
-use Rattle.tsn_argue.specs.declared.wrong.Wrong.TheVariants.{InReach}
+use Rattle.tsn_check.specs.declared.wrong.Wrong.TheVariants.{InReach}
 use Rattle.tsn_argue.specs.Faults.{IsInReach}
 use Rattle.tsn_argue.specs.State.{view_of}
 use Rattle.tsn_argue.proofs.MotionLemmas.{turned_triple}

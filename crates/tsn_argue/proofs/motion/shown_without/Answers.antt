@@ -1,7 +1,7 @@
 use Rattle.std.proofs.Common.{arith}
 use mir.Syntax.{w128}
 use Rattle.std.proofs.lemmas.Int.{ints, to_z-of_z}
-use Rattle.tsn_argue.specs.declared.wrong.Wrong.TheVariants.{Room}
+use Rattle.tsn_check.specs.declared.wrong.Wrong.TheVariants.{Room}
 use Rattle.tsn_argue.proofs.motion.shown_without.Goals as goal
 
 pub returns-else-end-bound : goal.returns-else-end-bound

@@ -4,7 +4,7 @@ use Rattle.tsn_cert.specs.Fact.{fact_of, clause_of}
 use Rattle.tsn_cert.specs.declared.fact.Fact.{Fact}
 use Rattle.tsn_cert.specs.declared.fact.Fact.TheVariants.{From}
 use Rattle.tsn_argue.specs.Motion.{FindsUnit}
-use Rattle.tsn_argue.specs.declared.wrong.Wrong.TheVariants.{Left}
+use Rattle.tsn_check.specs.declared.wrong.Wrong.TheVariants.{Left}
 use Rattle.tsn_argue.specs.State.{view_of}
 use Rattle.tsn_argue.proofs.MotionLemmas.{unit_skip, unit_first, unit_two}
 use Rattle.tsn_argue.proofs.motion.unit_of.Goals as goal

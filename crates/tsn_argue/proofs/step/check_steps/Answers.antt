@@ -1,7 +1,7 @@
 use Rattle.std.proofs.Common.{◌≡◌, ◌⊎◌, inr, sym, subst}
 use Rattle.tsn_cert.specs.Argument.{steps_of}
-use Rattle.tsn_argue.specs.declared.fault.ArgumentFault.{ArgumentFault}
-use Rattle.tsn_argue.specs.declared.fault.ArgumentFault.TheVariants.{Memory}
+use Rattle.tsn_check.specs.declared.argument.ArgumentFault.{ArgumentFault}
+use Rattle.tsn_check.specs.declared.argument.ArgumentFault.TheVariants.{Memory}
 use Rattle.tsn_argue.specs.Faults.{IsArgumentFault}
 use Rattle.tsn_argue.specs.Steps.{goal_of, IsAim}
 use Rattle.tsn_argue.proofs.Telling.{no_steps, more_steps}

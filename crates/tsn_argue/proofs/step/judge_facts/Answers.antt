@@ -2,7 +2,7 @@ use Rattle.std.proofs.Common.{All, refl}
 use Rattle.tsn_model.specs.Argument.{IsFact}
 use Rattle.tsn_cert.specs.Fact.{fact_of}
 use Rattle.tsn_argue.specs.Faults.{IsWrongFact}
-use Rattle.tsn_argue.specs.declared.fault.StepFault.TheVariants as of_step
+use Rattle.tsn_check.specs.declared.argument.StepFault.TheVariants as of_step
 use Rattle.tsn_argue.proofs.Ordered.{told_at, all_right}
 use Rattle.tsn_argue.proofs.step.judge_facts.Goals as goal
 

@@ -1,6 +1,6 @@
 use Rattle.std.proofs.Common.{not, Some, None, ap}
 use Rattle.tsn_cert.specs.Node.{tree_node}
-use Rattle.tsn_codec.specs.declared.refused.Misfit.TheVariants.{NoNode}
+use Rattle.tsn_cert.specs.declared.refused.Misfit.TheVariants.{NoNode}
 use Rattle.tsn_codec.specs.Matter.{is_of}
 use Rattle.tsn_codec.proofs.Firsts.{first_or_len}
 use Rattle.tsn_codec.proofs.cert.no_node.Goals as goal

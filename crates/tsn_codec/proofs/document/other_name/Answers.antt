@@ -3,7 +3,7 @@ use Rattle.std.specs.BTreeMap.{keys}
 use Rattle.std.specs.List.{list_any, find}
 use Rattle.std.specs.Str.{bytes_eq}
 use Rattle.serde_json.specs.View.{view, members_view}
-use Rattle.tsn_codec.specs.Told.{key_name}
+use Rattle.tsn_cert.specs.Told.{key_name}
 use Rattle.tsn_codec.proofs.Misfits.{find_map, mapped_twice, names_in-view, member_names-view}
 use Rattle.tsn_codec.proofs.Counted.{some_other}
 use Rattle.tsn_codec.proofs.document.other_name.Goals as goal

@@ -1,6 +1,6 @@
 use Rattle.std.proofs.Common.{◌≡◌, length, Some, refl, arith}
 use Rattle.tsn_codec.proofs.Elements.{map_same}
-use Rattle.tsn_codec.specs.declared.refused.Part.TheVariants as part
+use Rattle.tsn_cert.specs.declared.refused.Part.TheVariants as part
 use Rattle.tsn_codec.proofs.argument.step.step_inside.Goals as goal
 
 pub returns-in-Err-Behind : goal.returns-in-Err-Behind

@@ -1,10 +1,11 @@
 //! Why an argument shows nothing of a plan: the first fault, with the numbers that show it.
 ghost use Rattle.std.specs.Prelude.{◌≡◌};
-ghost use Rattle.tsn_argue.specs.Faults.{step_code, code_of};
+ghost use Rattle.tsn_check.specs.Numbers.{step_code, argument_code};
 
 use crate::wrong::Wrong;
 use tsn_cert::Goal;
-use tsn_check::{CheckFault, PlanFault};
+use crate::fault::CheckFault;
+use crate::why::PlanFault;
 use tsn_model::NoMemory;
 
 /// What is wrong with a step.
@@ -71,7 +72,7 @@ pub enum ArgumentFault {
 impl ArgumentFault {
     /// The fault of a certificate that it is.
     pub fn code(self) -> CheckFault
-        ensures { result ≡ code_of self }
+        ensures { result ≡ argument_code self }
     {
         match self {
             ArgumentFault::Plan(fault) => fault.code(),
@@ -85,7 +86,7 @@ impl ArgumentFault {
 
 impl From<PlanFault> for ArgumentFault {
     ghost use Rattle.std.specs.Prelude.{◌≡◌};
-    ghost use Rattle.tsn_argue.specs.declared.fault.ArgumentFault.TheVariants.{Plan};
+    ghost use Rattle.tsn_check.specs.declared.argument.ArgumentFault.TheVariants.{Plan};
 
     ghost from_gives = { λ wrong fault. fault ≡ Plan wrong };
 
@@ -96,7 +97,7 @@ impl From<PlanFault> for ArgumentFault {
 
 impl From<NoMemory> for ArgumentFault {
     ghost use Rattle.std.specs.Prelude.{◌≡◌};
-    ghost use Rattle.tsn_argue.specs.declared.fault.ArgumentFault.TheVariants.{Memory};
+    ghost use Rattle.tsn_check.specs.declared.argument.ArgumentFault.TheVariants.{Memory};
 
     ghost from_gives = { λ _ fault. fault ≡ Memory };
 

@@ -3,10 +3,10 @@ use Rattle.std.specs.Prelude.{◌≡◌, ℕ, List, codes, Option, Result, Ok, E
 use Rattle.tsn_cert.specs.Fault.{FaultGiven, named}
 use Rattle.tsn_cert.specs.declared.fault.FileFault.{FileFault}
 use Rattle.tsn_cert.specs.declared.fault.FileFault.TheVariants as fault
-use Rattle.tsn_codec.specs.declared.refused.Key.{Key}
-use Rattle.tsn_codec.specs.declared.refused.Key.TheVariants as key
-use Rattle.tsn_codec.specs.declared.refused.Refused.{Refused}
-use Rattle.tsn_codec.specs.declared.refused.Refused.TheVariants.{NotJson, WrongShape, NumberTooLarge, Memory}
+use Rattle.tsn_cert.specs.declared.refused.Key.{Key}
+use Rattle.tsn_cert.specs.declared.refused.Key.TheVariants as key
+use Rattle.tsn_cert.specs.declared.refused.Refused.{Refused}
+use Rattle.tsn_cert.specs.declared.refused.Refused.TheVariants.{NotJson, WrongShape, NumberTooLarge, Memory}
 
 -- a key, as it stands in a file
 abbrev pub key_name : Key → List ℕ

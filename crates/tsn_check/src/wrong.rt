@@ -1,8 +1,8 @@
 //! What is wrong with a fact or a move of an argument, with the numbers that show it.
 ghost use Rattle.std.specs.Prelude.{◌≡◌};
-ghost use Rattle.tsn_argue.specs.Faults.{wrong_code};
+ghost use Rattle.tsn_check.specs.Numbers.{wrong_code};
 
-use tsn_check::CheckFault;
+use crate::fault::CheckFault;
 use tsn_model::{Decision, Frame};
 
 /// What is wrong with a fact or a move. Times are in nanoseconds.

@@ -1,10 +1,10 @@
 //! Why a file is refused: what is the matter with it, and where.
 ghost use Rattle.std.specs.Prelude.{◌≡◌};
-ghost use Rattle.tsn_codec.specs.Told.{key_name, code_of};
+ghost use Rattle.tsn_cert.specs.Told.{key_name, code_of};
 
 use serde_json::Error;
 use std::alloc::{AllocError, AllocFailed};
-use tsn_cert::{FileFault, Format};
+use crate::{FileFault, Format};
 use tsn_model::NoMemory;
 
 /// A key of a plan or of a certificate.
@@ -125,7 +125,7 @@ impl Refused {
 
 impl From<AllocError> for Refused {
     ghost use Rattle.std.specs.Prelude.{◌≡◌};
-    ghost use Rattle.tsn_codec.specs.declared.refused.Refused.TheVariants.{Memory};
+    ghost use Rattle.tsn_cert.specs.declared.refused.Refused.TheVariants.{Memory};
 
     ghost from_gives = { λ _ e. e ≡ Memory };
 
@@ -136,7 +136,7 @@ impl From<AllocError> for Refused {
 
 impl<T: Drop> From<AllocFailed<T>> for Refused {
     ghost use Rattle.std.specs.Prelude.{◌≡◌};
-    ghost use Rattle.tsn_codec.specs.declared.refused.Refused.TheVariants.{Memory};
+    ghost use Rattle.tsn_cert.specs.declared.refused.Refused.TheVariants.{Memory};
 
     ghost from_gives = { λ _ e. e ≡ Memory };
 
@@ -147,7 +147,7 @@ impl<T: Drop> From<AllocFailed<T>> for Refused {
 
 impl From<NoMemory> for Refused {
     ghost use Rattle.std.specs.Prelude.{◌≡◌};
-    ghost use Rattle.tsn_codec.specs.declared.refused.Refused.TheVariants.{Memory};
+    ghost use Rattle.tsn_cert.specs.declared.refused.Refused.TheVariants.{Memory};
 
     ghost from_gives = { λ _ e. e ≡ Memory };
 
