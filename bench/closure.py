@@ -21,7 +21,7 @@ STATEMENTS = [
     ("a certificate shows it", "tsn_argue", ["Certifies"]),
     ("what shows the planner's answer", "tsn_answer", ["IsAnswerShown"]),
     ("what its file says", "tsn_answer", ["IsAnswerReadAgain"]),
-    ("what `plan` prints and writes", "tsn_prover", ["PlanAnswers"]),
+    ("what `plan` prints and writes", "tsn_cli", ["PlanAnswers"]),
     ("frames start on time", "tsn_model", ["FramesStartOnTime"]),
 ]
 NAME = re.compile(r"[^\s(){}\[\],;:.λ∷→×⊎≡≢≤<↔¬∙+*=|&-]+")

@@ -10,7 +10,7 @@ use std::rt::{Clock, Env, Files};
 use std::sync::Wait;
 use std::thread::Threads;
 use std::{env, fs, io};
-use tsn_given::{System, doubled_in, no_memory, refuse, show};
+use tsn_outcome::{System, doubled_in, no_memory, refuse, show};
 use tsn_words::{Words, WordsFault, words_from};
 
 fn main(rt: HostRuntime) -> ExitCode {

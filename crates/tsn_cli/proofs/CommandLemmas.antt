@@ -2,16 +2,16 @@
 use Rattle.std.proofs.Common.{ℕ, List, [], ◌∷◌, Bool, true, false, IsTrue, Result, Ok, Err, IfOk, refl}
 use Rattle.tsn_device.specs.declared.device.ReadFault.{ReadFault}
 use Rattle.tsn_device.specs.declared.device.ReadFault.TheVariants.{Broken}
-use Rattle.tsn_given.specs.declared.answer.Answer.{Answer}
-use Rattle.tsn_given.specs.Outcome.{ComesOver, IsWrittenAs, TellsFailures, output_of}
-use Rattle.tsn_given.specs.Run.{Command, Failures, RunsOver, SinkRun, SourceRun}
-use Rattle.tsn_given.specs.Runs.{RunsTold}
+use Rattle.tsn_outcome.specs.declared.answer.Answer.{Answer}
+use Rattle.tsn_outcome.specs.Outcome.{ComesOver, IsWrittenAs, TellsFailures, output_of}
+use Rattle.tsn_outcome.specs.Run.{Command, Failures, RunsOver, SinkRun, SourceRun}
+use Rattle.tsn_outcome.specs.Runs.{RunsTold}
 use Rattle.tsn_cli.specs.declared.showing.Shown.{Shown}
 use Rattle.tsn_cli.specs.declared.showing.Shown.TheVariants.{Text, Said}
 use Rattle.tsn_cli.specs.Shown.{IsSaid, IsShownBy, IsToldAs, shown_output}
-use Rattle.tsn_given.proofs.LineLemmas.{ends_as}
-use Rattle.tsn_given.proofs.RunLemmas.{TellsFaults, runs_with, tells_ok}
-use Rattle.tsn_given.proofs.RunsLemmas.{told_over}
+use Rattle.tsn_outcome.proofs.LineLemmas.{ends_as}
+use Rattle.tsn_outcome.proofs.RunLemmas.{TellsFaults, runs_with, tells_ok}
+use Rattle.tsn_outcome.proofs.RunsLemmas.{told_over}
 
 -- how what is shown tells a fault of a source
 pub shown_faults : TellsFaults shown_output

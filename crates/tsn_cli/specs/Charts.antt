@@ -2,11 +2,11 @@
 use Rattle.std.specs.Prelude.{ℕ, List, [], ◌∷◌, Bool, Option, Some, None}
 use Rattle.tsn_words.specs.declared.words.ChartWords.{ChartWords}
 use Rattle.tsn_chart.specs.declared.picture.Drawing.{Drawing}
-use Rattle.tsn_given.specs.Run.{RunsOver, SinkRun}
+use Rattle.tsn_outcome.specs.Run.{RunsOver, SinkRun}
 use Rattle.tsn_cli.specs.Explain.{MarkedChartAnswers}
 use Rattle.tsn_cli.specs.Tables.{ChartAnswers}
 use Rattle.tsn_cli.specs.Options.{IsDrawingOf}
-use Rattle.tsn_given.specs.Runs.{OverCert, OverPlan, WithSome}
+use Rattle.tsn_outcome.specs.Runs.{OverCert, OverPlan, WithSome}
 
 -- with marks, where the words name a certificate
 abbrev pub RunsChart : {S : Type 0} → (S → Option (List ℕ)) → (S → ℕ) → (S → Bool) → (List ℕ → S → Type 0) → (List ℕ → S → Type 0) → (List ℕ → S → Type 0)

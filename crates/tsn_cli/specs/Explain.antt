@@ -7,8 +7,8 @@ use Rattle.tsn_cert.specs.declared.plan.Plan.{Plan}
 use Rattle.tsn_cert.specs.declared.certificate.Certificate.{Certificate}
 use Rattle.tsn_chart.specs.declared.picture.Drawing.{Drawing}
 use Rattle.tsn_cli.specs.declared.table.Table.TheVariants.{Chart}
-use Rattle.tsn_given.specs.Run.{Output, Command, IsLine}
-use Rattle.tsn_reason.specs.Check.{CertAnswersBy}
+use Rattle.tsn_outcome.specs.Run.{Output, Command, IsLine}
+use Rattle.tsn_cli.specs.Check.{CertAnswersBy}
 use Rattle.tsn_cli.specs.Tables.{ShowsPlan, RejectsPlan}
 
 -- the output is a text, of which nothing more is said

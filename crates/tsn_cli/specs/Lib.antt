@@ -4,3 +4,13 @@ pub mod Tables
 pub mod Explain
 pub mod Options
 pub mod Charts
+pub mod Pieces
+pub mod Files
+pub mod RunOutput
+pub mod Unmade
+pub mod Devices
+pub mod Plan
+pub mod Prove
+pub mod Laws
+pub mod Inputs
+pub mod Check

@@ -8,10 +8,10 @@ use Rattle.tsn_timing.specs.Problem.{NamedNetwork}
 use Rattle.tsn_device.specs.declared.device.ReadFault.{ReadFault}
 use Rattle.tsn_cli.specs.declared.showing.Shown.{Shown}
 use Rattle.tsn_cli.specs.declared.showing.Shown.TheVariants.{Text, Said}
-use Rattle.tsn_given.specs.Run.{Command, Output, SinkRun}
-use Rattle.tsn_given.specs.Runs.{IsToldBy}
-use Rattle.tsn_given.specs.Outcome.{IsWrittenAs, output_of}
-use Rattle.tsn_reason.specs.Refusal.{RefusesNetwork}
+use Rattle.tsn_outcome.specs.Run.{Command, Output, SinkRun}
+use Rattle.tsn_outcome.specs.Runs.{IsToldBy}
+use Rattle.tsn_outcome.specs.Outcome.{IsWrittenAs, output_of}
+use Rattle.tsn_outcome.specs.Refusal.{RefusesNetwork}
 
 -- a text that was asked for, or an answer in a line
 abbrev pub shown_output : Result Shown ReadFault → Output

@@ -36,10 +36,10 @@ use Rattle.tsn_cli.specs.declared.table.GatesOptions.{GatesOptions}
 use Rattle.tsn_cli.specs.declared.table.ReplayOptions.{ReplayOptions}
 use Rattle.tsn_cli.specs.declared.table.Table.{Table}
 use Rattle.tsn_cli.specs.declared.table.Table.TheVariants.{Gates, Replay, Chart, Streams}
-use Rattle.tsn_given.specs.Run.{Output, Command, IsLine}
-use Rattle.tsn_given.specs.declared.outcome.Outcome.TheVariants.{RefusedPlan}
-use Rattle.tsn_given.specs.Outcome.{IsOutcome}
-use Rattle.tsn_reason.specs.Refusal.{RefusesNetwork, RefusesPlan}
+use Rattle.tsn_outcome.specs.Run.{Output, Command, IsLine}
+use Rattle.tsn_outcome.specs.declared.outcome.Outcome.TheVariants.{RefusedPlan}
+use Rattle.tsn_outcome.specs.Outcome.{IsOutcome}
+use Rattle.tsn_outcome.specs.Refusal.{RefusesNetwork, RefusesPlan}
 
 -- the lists in the format that is asked for
 abbrev pub lists_text : GatesOptions → NamedNetwork → List LinkGates → List ℕ

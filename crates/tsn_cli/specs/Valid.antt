@@ -5,10 +5,10 @@ use Rattle.tsn_model.specs.Network.{Network}
 use Rattle.tsn_model.specs.Schedule.{IsValid, IsFirstViolation, flowspan}
 use Rattle.tsn_net.specs.File.{States}
 use Rattle.tsn_timing.specs.Problem.{NamedNetwork}
-use Rattle.tsn_given.specs.declared.outcome.Outcome.TheVariants.{Valid, NotValid}
-use Rattle.tsn_given.specs.Run.{Output, Command}
-use Rattle.tsn_given.specs.Outcome.{IsOutcome}
-use Rattle.tsn_reason.specs.Refusal.{RefusesNetwork}
+use Rattle.tsn_outcome.specs.declared.outcome.Outcome.TheVariants.{Valid, NotValid}
+use Rattle.tsn_outcome.specs.Run.{Output, Command}
+use Rattle.tsn_outcome.specs.Outcome.{IsOutcome}
+use Rattle.tsn_outcome.specs.Refusal.{RefusesNetwork}
 
 -- the offsets are a valid schedule
 abbrev pub Accepts : Network → List ℕ → Output → Type 0

@@ -5,12 +5,13 @@ ghost use Rattle.tsn_cert.specs.declared.plan.Plan.{Plan};
 ghost use Rattle.tsn_cert.specs.declared.certificate.Certificate.{Certificate};
 ghost use Rattle.tsn_argue.specs.Certified.{Certifies, certificate_verdict};
 ghost use Rattle.tsn_argue.specs.Faults.{IsFirstFault};
-ghost use Rattle.tsn_reason.specs.Inputs.{IsReadOver};
-ghost use Rattle.tsn_given.specs.Run.{Output, source_over};
-ghost use Rattle.tsn_given.specs.Outcome.{ComesOver, output_of};
+ghost use Rattle.tsn_cli.specs.Inputs.{IsReadOver};
+ghost use Rattle.tsn_outcome.specs.Run.{Output, source_over};
+ghost use Rattle.tsn_outcome.specs.Outcome.{ComesOver, output_of};
 ghost use Rattle.tsn_cli.specs.Shown.{IsSaid, shown_output};
-ghost use Rattle.tsn_reason.specs.Check.{CertAnswersBy, JudgesCert, ShowsNothing};
+ghost use Rattle.tsn_cli.specs.Check.{CertAnswersBy, JudgesCert, ShowsNothing};
 
+use crate::inputs::{NetworkRead, PlanRead, read_network, read_plan};
 use crate::showing::Shown;
 use std::alloc::Global;
 use tsn_argue::{Silent, judge_argument};
@@ -18,13 +19,11 @@ use tsn_cert::{Certificate, Plan};
 use tsn_check::{CheckFault, Verdict, judge_tree};
 use tsn_codec::certificate_or_refuse;
 use tsn_device::device::{ReadFault, Source, read_all};
-use tsn_given::run::MAX_FILE;
-use tsn_given::{Answer, FileKind};
 use tsn_model::NoMemory;
-use tsn_reason::{
-    Claim, NetworkRead, PlanRead, cert_rejection, file_refusal, line_on_argument, line_on_tree,
-    read_network, read_plan,
+use tsn_outcome::{
+    Answer, Claim, FileKind, cert_rejection, file_refusal, line_on_argument, line_on_tree,
 };
+use tsn_outcome::run::MAX_FILE;
 use tsn_timing::Problem;
 
 /// What a command makes of a plan whose certificate is accepted.

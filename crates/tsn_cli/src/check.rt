@@ -1,8 +1,8 @@
 //! `check`: judges a plan and its certificate.
 ghost use Rattle.std.specs.Prelude.{◌<◌, ◌-◌, ◌^◌, [], ◌∷◌, IfOk, Ok};
-ghost use Rattle.tsn_given.specs.Run.{RunsOver, sink_over, source_over};
-ghost use Rattle.tsn_given.specs.Outcome.{IsOutcome, output_of};
-ghost use Rattle.tsn_reason.specs.Check.{CheckAnswers, IsAccepted, accepted};
+ghost use Rattle.tsn_outcome.specs.Run.{RunsOver, sink_over, source_over};
+ghost use Rattle.tsn_outcome.specs.Outcome.{IsOutcome, output_of};
+ghost use Rattle.tsn_cli.specs.Check.{CheckAnswers, IsAccepted, accepted};
 
 use crate::certified::{CertificateView, certified_shown};
 use crate::showing::{Shown, show};
@@ -10,9 +10,8 @@ use std::alloc::Global;
 use tsn_cert::{Certificate, Plan};
 use tsn_check::Verdict;
 use tsn_device::device::{Sink, Source};
-use tsn_given::{Answer, Outcome};
 use tsn_model::NoMemory;
-use tsn_reason::Claim;
+use tsn_outcome::{Answer, Claim, Outcome};
 
 /// Reads a network file, a plan file and a certificate file of format 1, 2 or 3, each judged before the next is read, and writes a
 /// line on the first that is refused, or on what the certificate shows. The answer is the status.

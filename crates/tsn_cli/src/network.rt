@@ -1,15 +1,15 @@
 //! What is shown of a network alone.
 ghost use Rattle.std.specs.Prelude.{◌<◌, ◌-◌, ◌^◌, [], ◌∷◌, IfOk, Ok};
 ghost use Rattle.tsn_timing.specs.Problem.{NamedNetwork};
-ghost use Rattle.tsn_given.specs.Run.{Output, source_over};
-ghost use Rattle.tsn_given.specs.Outcome.{ComesOver};
+ghost use Rattle.tsn_outcome.specs.Run.{Output, source_over};
+ghost use Rattle.tsn_outcome.specs.Outcome.{ComesOver};
 ghost use Rattle.tsn_cli.specs.Shown.{IsSaid, NetworkAnswers, shown_output};
 
 use crate::showing::Shown;
 use std::alloc::Global;
 use tsn_device::device::{ReadFault, Source};
 use tsn_model::NoMemory;
-use tsn_reason::{NetworkRead, read_network};
+use crate::inputs::{NetworkRead, read_network};
 use tsn_timing::Problem;
 
 /// What a command makes of a network, where its file is taken.

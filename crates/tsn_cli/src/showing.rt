@@ -1,12 +1,12 @@
 //! What is shown, and how it is written.
 ghost use Rattle.std.specs.Prelude.{◌<◌, ◌-◌, ◌^◌, [], ◌∷◌};
-ghost use Rattle.tsn_given.specs.Run.{sink_over};
-ghost use Rattle.tsn_given.specs.Outcome.{IsWrittenAs};
+ghost use Rattle.tsn_outcome.specs.Run.{sink_over};
+ghost use Rattle.tsn_outcome.specs.Outcome.{IsWrittenAs};
 ghost use Rattle.tsn_cli.specs.Shown.{IsShownBy};
 
 use tsn_device::device::{ReadFault, Sink};
-use tsn_given::Answer;
-use tsn_given::run::{DONE, finish, respond};
+use tsn_outcome::Answer;
+use tsn_outcome::run::{DONE, finish, respond};
 
 /// What is shown: a text that was asked for, with remarks on it for standard error, a line each, of which nothing is claimed; or an
 /// answer in a line, such as why a file is refused.

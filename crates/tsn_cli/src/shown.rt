@@ -1,10 +1,10 @@
 //! The commands that judge and show, over what they are given.
 ghost use Rattle.std.specs.Prelude.{◌≡◌, [], ◌∷◌, IfOk, IsTrue, Ok};
-ghost use Rattle.tsn_given.specs.Run.{RunsOver, sink_over};
-ghost use Rattle.tsn_given.specs.Runs.{OverCert, OverNetwork, OverPlan, RunsTold};
-ghost use Rattle.tsn_given.specs.Outcome.{IsWrittenAs};
+ghost use Rattle.tsn_outcome.specs.Run.{RunsOver, sink_over};
+ghost use Rattle.tsn_outcome.specs.Runs.{OverCert, OverNetwork, OverPlan, RunsTold};
+ghost use Rattle.tsn_outcome.specs.Outcome.{IsWrittenAs};
 ghost use Rattle.tsn_cli.specs.declared.showing.Shown.TheVariants.{Text};
-ghost use Rattle.tsn_reason.specs.Check.{CertAnswersBy};
+ghost use Rattle.tsn_cli.specs.Check.{CertAnswersBy};
 ghost use Rattle.tsn_cli.specs.Shown.{IsSaid, IsShownBy, IsToldAs, NetworkAnswers};
 ghost use Rattle.tsn_cli.specs.Tables.{CanShow, TableAnswers};
 
@@ -15,11 +15,11 @@ use crate::table::Table;
 use crate::tables::table_shown;
 use std::alloc::Global;
 use tsn_device::device::ReadFault;
-use tsn_given::json::tell_answer;
-use tsn_given::reason::{failure_line, fault_of, source_line};
-use tsn_given::run::{DONE, finish};
-use tsn_given::told::{Ran, Told, tell, tell_all};
-use tsn_given::{Given, Made};
+use tsn_outcome::json::tell_answer;
+use tsn_outcome::reason::{failure_line, fault_of, source_line};
+use tsn_outcome::run::{DONE, finish};
+use tsn_outcome::told::{Ran, Told, tell, tell_all};
+use tsn_outcome::{Given, Made};
 use tsn_words::ExplainWords;
 
 /// Shows what a view makes of a network; the network `-` is standard input. With `json` an answer in a line is told as a line of JSON.

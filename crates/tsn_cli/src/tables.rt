@@ -3,9 +3,9 @@
 ghost use Rattle.std.specs.Prelude.{◌≡◌, ◌≤◌, ◌<◌, ◌-◌, ◌^◌, ◌⊎◌, [], ◌∷◌, All, IfOk, IsErr, Ok, length, string_bytes};
 ghost use Rattle.tsn_model.specs.Schedule.{IsValid};
 ghost use Rattle.tsn_check.specs.Numbers.{plan_code};
-ghost use Rattle.tsn_given.specs.Run.{RunsOver, sink_over, source_over};
-ghost use Rattle.tsn_given.specs.Outcome.{ComesOver, IsOutcome};
-ghost use Rattle.tsn_given.specs.declared.outcome.Outcome.TheVariants.{RefusedPlan};
+ghost use Rattle.tsn_outcome.specs.Run.{RunsOver, sink_over, source_over};
+ghost use Rattle.tsn_outcome.specs.Outcome.{ComesOver, IsOutcome};
+ghost use Rattle.tsn_outcome.specs.declared.outcome.Outcome.TheVariants.{RefusedPlan};
 ghost use Rattle.tsn_cli.specs.Shown.{shown_output};
 ghost use Rattle.tsn_gate.specs.declared.trace.Row.{Row};
 ghost use Rattle.tsn_chart.specs.declared.link.LinkShare.{LinkShare};
@@ -22,7 +22,8 @@ use tsn_check::{PlanFault, judge_plan};
 use tsn_device::device::{ReadFault, Sink, Source};
 use tsn_gate::{Background, ReplayFault, ReplayTable, gate_lists, lists_by, replay_rows, text_in};
 use tsn_model::NoMemory;
-use tsn_reason::{Claim, NetworkRead, PlanRead, line_on_plan, read_network, read_plan, rejection};
+use crate::inputs::{NetworkRead, PlanRead, read_network, read_plan};
+use tsn_outcome::{Claim, line_on_plan, rejection};
 use tsn_timing::{Problem, Valid};
 use tsn_words::{ReplayFormat, StreamsFormat};
 

@@ -1,16 +1,15 @@
 //! `valid`: judges a list of offsets.
 ghost use Rattle.std.specs.Prelude.{◌<◌, ◌-◌, ◌^◌, ◌⊎◌, [], ◌∷◌, IfOk, Ok};
-ghost use Rattle.tsn_given.specs.Run.{RunsOver, sink_over, source_over};
-ghost use Rattle.tsn_given.specs.Outcome.{output_of};
+ghost use Rattle.tsn_outcome.specs.Run.{RunsOver, sink_over, source_over};
+ghost use Rattle.tsn_outcome.specs.Outcome.{output_of};
 ghost use Rattle.tsn_cli.specs.Valid.{ValidAnswers, Accepts, Rejects};
 
 use crate::network::{NetworkView, network_shown};
 use crate::showing::{Shown, show};
 use std::alloc::Global;
 use tsn_device::device::{Sink, Source};
-use tsn_given::{Answer, Outcome};
 use tsn_model::NoMemory;
-use tsn_reason::{Schedule, offsets_line};
+use tsn_outcome::{Answer, Outcome, Schedule, offsets_line};
 use tsn_timing::{Problem, Validity};
 
 /// Reads a network file, judges the offsets (nanoseconds, of any size, in the order of the file's streams), and writes

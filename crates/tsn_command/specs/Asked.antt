@@ -6,17 +6,17 @@ use Rattle.std.specs.Prelude.{◌≡◌, ◌⊎◌, ℕ, [], ◌∷◌, IfSome, 
 use Rattle.tsn_words.specs.declared.words.Words.{Words}
 use Rattle.tsn_words.specs.declared.words.Words.TheVariants.{Valid, Plan, Check, Prove, Explain, Gates, Replay, Chart, Streams}
 use Rattle.tsn_words.specs.declared.words.PlanWords.{PlanWords}
-use Rattle.tsn_reason.specs.Check.{CheckAnswers}
-use Rattle.tsn_given.specs.Run.{RunsOver, SinkRun, failed_in, taken_in}
+use Rattle.tsn_cli.specs.Check.{CheckAnswers}
+use Rattle.tsn_outcome.specs.Run.{RunsOver, SinkRun, failed_in, taken_in}
 use Rattle.tsn_cli.specs.Valid.{ValidAnswers}
 use Rattle.tsn_cli.specs.Explain.{ExplainAnswers}
 use Rattle.tsn_cli.specs.Tables.{GatesAnswers, ReplayAnswers, StreamsAnswers}
-use Rattle.tsn_prover.specs.Plan.{PlanAnswers}
+use Rattle.tsn_cli.specs.Plan.{PlanAnswers}
 use Rattle.tsn_cli.specs.Options.{gates_options, replay_options}
 use Rattle.tsn_cli.specs.Charts.{RunsChart}
-use Rattle.tsn_given.specs.Runs.{RunsTold}
-use Rattle.tsn_prover.specs.Devices.{CannotBegin, Devices, OnCert, OnNetwork, OnPlan, RunsProve}
-use Rattle.tsn_prover.specs.Files.{MadeFiles}
+use Rattle.tsn_outcome.specs.Runs.{RunsTold}
+use Rattle.tsn_cli.specs.Devices.{CannotBegin, Devices, OnCert, OnNetwork, OnPlan, RunsProve}
+use Rattle.tsn_cli.specs.Files.{MadeFiles}
 use Rattle.tsn_answer.specs.declared.effort.Effort.{Effort}
 
 -- how a plan is searched for

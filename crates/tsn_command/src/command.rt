@@ -1,8 +1,8 @@
 //! The commands, over what they are given.
 ghost use Rattle.std.specs.Prelude.{◌≡◌};
-ghost use Rattle.tsn_given.specs.Run.{sink_over};
-ghost use Rattle.tsn_given.specs.Runs.{WithSome};
-ghost use Rattle.tsn_prover.specs.Devices.{devices_of};
+ghost use Rattle.tsn_outcome.specs.Run.{sink_over};
+ghost use Rattle.tsn_outcome.specs.Runs.{WithSome};
+ghost use Rattle.tsn_cli.specs.Devices.{devices_of};
 ghost use Rattle.tsn_command.specs.Asked.{RunsAsked};
 
 use crate::explained::{Explanation, picture};
@@ -12,11 +12,10 @@ use std::io::Eprint;
 use std::sync::Wait;
 use std::thread::Threads;
 use std::time::Clock;
+use tsn_cli::{Offsets, Table, VerdictLine, prove};
 use tsn_cli::options::{gates_options, replay_options};
 use tsn_cli::shown::{certified, network, table};
-use tsn_cli::{Offsets, Table, VerdictLine};
-use tsn_given::{Given, Made, Ran};
-use tsn_prover::prove;
+use tsn_outcome::{Given, Made, Ran};
 use tsn_words::{CheckWords, ExplainWords, Words};
 
 /// Runs a command over what its words name, and says the status. Where a file is refused, or a device fails, a line is told on why.

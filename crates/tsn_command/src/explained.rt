@@ -2,19 +2,18 @@
 ghost use Rattle.std.specs.Prelude.{◌≡◌, option_map};
 ghost use Rattle.tsn_cli.specs.Charts.{RunsChart};
 ghost use Rattle.tsn_cli.specs.Explain.{ShowsMarked, ShowsText};
-ghost use Rattle.tsn_given.specs.Run.{sink_over};
+ghost use Rattle.tsn_outcome.specs.Run.{sink_over};
 
 use std::alloc::Global;
 use tsn_cert::Certificate;
 use tsn_chart::Drawing;
 use tsn_check::Verdict;
+use tsn_cli::{CertificateView, Shown, Table, plan_shown};
 use tsn_cli::options::drawing_of;
 use tsn_cli::shown::{certified, table};
-use tsn_cli::{CertificateView, Shown, Table, plan_shown};
 use tsn_explain::{explanation, marked_frames};
-use tsn_given::{Given, Made, Ran};
 use tsn_model::NoMemory;
-use tsn_reason::Claim;
+use tsn_outcome::{Claim, Given, Made, Ran};
 use tsn_words::{ChartWords, ExplainWords};
 
 /// The words of a certificate.

@@ -9,4 +9,4 @@ pub mod planning;
 
 pub use command::{run, run_to};
 pub use plan::{plan_answer, plan_run};
-pub use tsn_prover::{NO_SCHEDULE, PlanEnd};
+pub use tsn_cli::{NO_SCHEDULE, PlanEnd};

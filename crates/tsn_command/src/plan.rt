@@ -1,21 +1,22 @@
 //! `plan`: finds the lexicographically least of the schedules of least flowspan.
 ghost use Rattle.std.specs.Prelude.{◌≡◌, ◌≤◌, ◌<◌, ◌-◌, ◌^◌, ◌↔◌, [], ◌∷◌, IfOk, IfSome, IsTrue, is_some};
-ghost use Rattle.tsn_given.specs.Run.{EndsOver, RunsOver, failed_in, sink_over, source_over, taken_in};
-ghost use Rattle.tsn_given.specs.Said.{line_of, status_of, stop_of};
-ghost use Rattle.tsn_given.specs.Outcome.{EndsAs, line_taken, outcome_of};
-ghost use Rattle.tsn_prover.specs.Plan.{PlanAnswers, PlanStops};
-ghost use Rattle.tsn_prover.specs.RunOutput.{ComesPrinted, Knows, written_bytes};
+ghost use Rattle.tsn_outcome.specs.Run.{EndsOver, RunsOver, failed_in, sink_over, source_over, taken_in};
+ghost use Rattle.tsn_outcome.specs.Said.{line_of, status_of, stop_of};
+ghost use Rattle.tsn_outcome.specs.Outcome.{EndsAs, line_taken, outcome_of};
+ghost use Rattle.tsn_cli.specs.Plan.{PlanAnswers, PlanStops};
+ghost use Rattle.tsn_cli.specs.RunOutput.{ComesPrinted, Knows, written_bytes};
 
 use std::alloc::Global;
 use std::sync::Wait;
 use std::thread::Threads;
 use tsn_answer::Effort;
 use tsn_branch::Supervisor;
+use tsn_cli::{
+    NetworkRead, PlanEnd, RunOutput, Written, alone, end_run, output_for, read_network, write_plan,
+};
 use tsn_device::device::{ReadFault, Sink, Source};
-use tsn_given::Answer;
-use tsn_given::run::STOPPED;
-use tsn_prover::{PlanEnd, RunOutput, Written, alone, end_run, output_for, write_plan};
-use tsn_reason::{NetworkRead, read_network};
+use tsn_outcome::Answer;
+use tsn_outcome::run::STOPPED;
 use tsn_worker::{Searched, search_by};
 
 /// Reads a network file and plans it by a method, with 1 to 16 workers and at most so many settlements, 1 to 1,000,000,000. It

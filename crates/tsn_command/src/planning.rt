@@ -1,10 +1,10 @@
 //! The command that plans a network.
 ghost use Rattle.std.specs.Prelude.{◌≡◌, is_some};
-ghost use Rattle.tsn_given.specs.Run.{failed_in, sink_over, taken_in};
-ghost use Rattle.tsn_prover.specs.Plan.{PlanAnswers};
-ghost use Rattle.tsn_given.specs.Runs.{OverNetwork, RunsTold};
-ghost use Rattle.tsn_prover.specs.Files.{OverFiles};
-ghost use Rattle.tsn_prover.specs.Devices.{devices_of};
+ghost use Rattle.tsn_outcome.specs.Run.{failed_in, sink_over, taken_in};
+ghost use Rattle.tsn_cli.specs.Plan.{PlanAnswers};
+ghost use Rattle.tsn_outcome.specs.Runs.{OverNetwork, RunsTold};
+ghost use Rattle.tsn_cli.specs.Files.{OverFiles};
+ghost use Rattle.tsn_cli.specs.Devices.{devices_of};
 ghost use Rattle.tsn_command.specs.Asked.{RunsPlan, effort_of};
 
 use crate::plan::plan_answer;
@@ -14,11 +14,11 @@ use std::sync::Wait;
 use std::thread::Threads;
 use std::time::Clock;
 use tsn_answer::Effort;
-use tsn_given::json::tell_answer;
-use tsn_given::reason::{fault_of, source_line, write_line};
-use tsn_given::told::Told;
-use tsn_given::{Given, Made, Ran, outcome_of};
-use tsn_prover::{
+use tsn_outcome::json::tell_answer;
+use tsn_outcome::reason::{fault_of, source_line, write_line};
+use tsn_outcome::told::Told;
+use tsn_outcome::{Given, Made, Ran, outcome_of};
+use tsn_cli::{
     Files, Unwritten, end_progress, file_line, plan_files, progress_of, stop_or, unwritable,
 };
 use tsn_words::PlanWords;

@@ -6,7 +6,7 @@ use crate::folder::Folder;
 use std::alloc::{AllocError, Global};
 use std::sync::Wait;
 use std::thread::Threads;
-use tsn_given::run::{DONE, WORDS};
+use tsn_outcome::run::{DONE, WORDS};
 use tsn_words::{Words, WordsFault, words_from};
 
 /// Runs the command that the words ask for; the first word is the program's name. A file that it is to write is kept, where

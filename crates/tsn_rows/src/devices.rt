@@ -8,7 +8,7 @@ use std::io::{Error, ErrorKind};
 use tsn_device::device::{Broken, Sink, Source};
 use tsn_device::memory::{MemorySink, MemorySource, NEVER};
 use tsn_device::{Action, Failure};
-use tsn_given::{Given, Made, Opened};
+use tsn_outcome::{Given, Made, Opened};
 
 // The file that stands for standard input, which the network `-` is read from.
 const STANDARD_INPUT: &str = "stdin";

@@ -1,6 +1,6 @@
 use Rattle.std.proofs.Common.{rules, inl}
 use Rattle.tsn_cert.specs.Told.{code_of}
-use Rattle.tsn_reason.proofs.CheckLemmas.{fault_is}
+use Rattle.tsn_cli.proofs.CheckLemmas.{fault_is}
 use Rattle.tsn_cli.proofs.certified.answer_on.Goals as goal
 
 pub returns-clause-judges : goal.returns-clause-judges

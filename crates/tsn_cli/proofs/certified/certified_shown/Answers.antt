@@ -1,12 +1,12 @@
 use Rattle.std.proofs.Common.{[], ◌∷◌, refl}
-use Rattle.tsn_reason.specs.declared.inputs.NetworkRead.TheVariants as of_network
-use Rattle.tsn_reason.specs.declared.inputs.PlanRead.TheVariants as of_plan
-use Rattle.tsn_reason.specs.Inputs.{TakesNetwork, TakesPlan}
+use Rattle.tsn_cli.specs.declared.inputs.NetworkRead.TheVariants as of_network
+use Rattle.tsn_cli.specs.declared.inputs.PlanRead.TheVariants as of_plan
+use Rattle.tsn_cli.specs.Inputs.{TakesNetwork, TakesPlan}
 use Rattle.tsn_cli.specs.Shown.{shown_output}
-use Rattle.tsn_reason.specs.Check.{CertAnswersBy}
-use Rattle.tsn_reason.proofs.CheckLemmas.{goes_on_after_network, plan_not_refused}
-use Rattle.tsn_given.proofs.RunLemmas.{Keeps-same}
-use Rattle.tsn_reason.proofs.InputLemmas.{also_left, answered, ended, none_left, unread, went_on}
+use Rattle.tsn_cli.specs.Check.{CertAnswersBy}
+use Rattle.tsn_cli.proofs.CheckLemmas.{goes_on_after_network, plan_not_refused}
+use Rattle.tsn_outcome.proofs.RunLemmas.{Keeps-same}
+use Rattle.tsn_cli.proofs.InputLemmas.{also_left, answered, ended, none_left, unread, went_on}
 use Rattle.tsn_cli.proofs.CommandLemmas.{shown_faults}
 use Rattle.tsn_cli.proofs.certified.certified_shown.Goals as goal
 

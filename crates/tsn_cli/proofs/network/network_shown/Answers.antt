@@ -1,5 +1,5 @@
 use Rattle.std.proofs.Common.{inl, inr}
-use Rattle.tsn_given.proofs.RunLemmas.{tells_ok}
+use Rattle.tsn_outcome.proofs.RunLemmas.{tells_ok}
 use Rattle.tsn_cli.proofs.network.network_shown.Goals as goal
 
 pub returns-in_ok-view-in-Ok-Taken-clause-comes : goal.returns-in_ok-view-in-Ok-Taken-clause-comes

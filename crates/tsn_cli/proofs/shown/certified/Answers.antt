@@ -1,4 +1,4 @@
-use Rattle.tsn_given.proofs.RunsLemmas.{over_source}
+use Rattle.tsn_outcome.proofs.RunsLemmas.{over_source}
 use Rattle.tsn_cli.proofs.CommandLemmas.{shown_told}
 use Rattle.tsn_cli.proofs.shown.certified.Goals as goal
 

@@ -1,5 +1,5 @@
 use Rattle.std.proofs.Common.{false, sym, true≢false}
-use Rattle.tsn_given.proofs.RunsLemmas.{over_source}
+use Rattle.tsn_outcome.proofs.RunsLemmas.{over_source}
 use Rattle.tsn_cli.proofs.CommandLemmas.{shown_told}
 use Rattle.tsn_cli.proofs.shown.table.Goals as goal
 

@@ -5,9 +5,9 @@ use Rattle.tsn_check.specs.Numbers.{plan_code}
 use Rattle.tsn_check.specs.Faults.{IsWrongPlan}
 use Rattle.tsn_check.specs.declared.why.PlanFault.{PlanFault}
 use Rattle.tsn_check.specs.declared.why.PlanFault.TheVariants.{Memory}
-use Rattle.tsn_given.specs.Run.{Output}
-use Rattle.tsn_given.specs.Outcome.{IsOutcome}
-use Rattle.tsn_given.specs.declared.outcome.Outcome.TheVariants.{RefusedPlan}
+use Rattle.tsn_outcome.specs.Run.{Output}
+use Rattle.tsn_outcome.specs.Outcome.{IsOutcome}
+use Rattle.tsn_outcome.specs.declared.outcome.Outcome.TheVariants.{RefusedPlan}
 use Rattle.tsn_cli.specs.Shown.{shown_output}
 use Rattle.tsn_cli.specs.Tables.{RejectsPlan, ShowsPlan}
 use Rattle.tsn_cli.proofs.tables.plan_shown.Goals as goal

@@ -1,4 +1,4 @@
-use Rattle.tsn_prover.proofs.PlanLemmas.{found_comes, found_knows, none_open, wanted_by}
+use Rattle.tsn_cli.proofs.PlanLemmas.{found_comes, found_knows, none_open, wanted_by}
 use Rattle.tsn_command.proofs.plan.found.Goals as goal
 
 pub output_for-requires : goal.output_for-requires

@@ -1,9 +1,9 @@
 use Rattle.std.proofs.Common.{is_some}
-use Rattle.tsn_given.specs.Said.{stop_of}
-use Rattle.tsn_prover.specs.Plan.{PlanAnswers, PlanStops}
-use Rattle.tsn_prover.specs.RunOutput.{IsPrinted, written_bytes}
-use Rattle.tsn_prover.proofs.EndLemmas.{fault_ends, none_of_fault, value_told}
-use Rattle.tsn_prover.proofs.PlanLemmas.{no_stop, plan_ends, plan_whole}
+use Rattle.tsn_outcome.specs.Said.{stop_of}
+use Rattle.tsn_cli.specs.Plan.{PlanAnswers, PlanStops}
+use Rattle.tsn_cli.specs.RunOutput.{IsPrinted, written_bytes}
+use Rattle.tsn_cli.proofs.EndLemmas.{fault_ends, none_of_fault, value_told}
+use Rattle.tsn_cli.proofs.PlanLemmas.{no_stop, plan_ends, plan_whole}
 use Rattle.tsn_command.proofs.plan.plan_answer.Goals as goal
 
 pub returns-in-Ok-clause-runs : goal.returns-in-Ok-clause-runs

@@ -1,8 +1,8 @@
 use Rattle.std.proofs.Common.{[], ◌∷◌, is_some}
-use Rattle.tsn_given.proofs.LineLemmas.{said_over}
-use Rattle.tsn_given.proofs.SaidLemmas.{known_stop, stop_known}
-use Rattle.tsn_prover.specs.Plan.{PlanAnswers}
-use Rattle.tsn_prover.proofs.PlanLemmas.{stop_over}
+use Rattle.tsn_outcome.proofs.LineLemmas.{said_over}
+use Rattle.tsn_outcome.proofs.SaidLemmas.{known_stop, stop_known}
+use Rattle.tsn_cli.specs.Plan.{PlanAnswers}
+use Rattle.tsn_cli.proofs.PlanLemmas.{stop_over}
 use Rattle.tsn_command.proofs.plan.plan_run.Goals as goal
 
 pub returns-clause-runs : goal.returns-clause-runs

@@ -1,5 +1,5 @@
 use Rattle.std.proofs.Common.{inl, inr}
-use Rattle.tsn_given.proofs.RunsLemmas.{over_along}
+use Rattle.tsn_outcome.proofs.RunsLemmas.{over_along}
 use Rattle.tsn_command.proofs.planning.plan.Goals as goal
 
 pub returns-in-Ok : goal.returns-in-Ok

@@ -1,4 +1,4 @@
-use Rattle.tsn_given.proofs.RunsLemmas.{told_over}
+use Rattle.tsn_outcome.proofs.RunsLemmas.{told_over}
 use Rattle.tsn_command.proofs.planning.plan_to.Goals as goal
 
 pub returns : goal.returns

@@ -1,0 +1,58 @@
+//! What is read before a plan is dealt with: a network, and then the plan.
+ghost use Rattle.std.specs.Prelude.{◌≡◌, ◌<◌, ◌-◌, ◌^◌};
+ghost use Rattle.tsn_outcome.specs.Run.{source_over};
+ghost use Rattle.tsn_cli.specs.Inputs.{IsReadOver, TakesNetwork, TakesPlan};
+
+use std::alloc::Global;
+use tsn_cert::Plan;
+use tsn_codec::plan_or_refuse;
+use tsn_device::device::{ReadFault, Source, read_all};
+use tsn_outcome::run::MAX_FILE;
+use tsn_outcome::{Answer, FileKind, file_refusal, network_line, refusal};
+use tsn_net::read_or_refuse;
+use tsn_timing::Problem;
+
+/// A network, or the line on why its file is refused.
+#[derive(Drop)]
+pub enum NetworkRead {
+    Taken(Problem),
+    Refused(Answer),
+}
+
+/// A plan, or the line on why its file is refused.
+#[derive(Drop)]
+pub enum PlanRead {
+    Taken(Plan),
+    Refused(Answer),
+}
+
+/// Reads a network.
+pub fn read_network<N: Source>(alloc: Global, network: &mut N) -> Result<NetworkRead, ReadFault>
+    requires { N.failed network.old < 2 ^ 64 - 1 }
+    ensures { IsReadOver TakesNetwork (source_over N.given N.failed N.is_at_end network.old network.new) result }
+{
+    let file = read_all(alloc, network, MAX_FILE)?;
+    match read_or_refuse(alloc, &file) {
+        Ok(problem) => Ok(NetworkRead::Taken(problem)),
+        Err(refused) => {
+            let fault = refused.fault;
+            let reason = network_line(alloc, network.name(), refused).unwrap_or(None);
+            Ok(NetworkRead::Refused(refusal(alloc, fault, reason)?))
+        }
+    }
+}
+
+/// Reads a plan.
+pub fn read_plan<P: Source>(alloc: Global, plan: &mut P) -> Result<PlanRead, ReadFault>
+    requires { P.failed plan.old < 2 ^ 64 - 1 }
+    ensures { IsReadOver TakesPlan (source_over P.given P.failed P.is_at_end plan.old plan.new) result }
+{
+    let file = read_all(alloc, plan, MAX_FILE)?;
+    match plan_or_refuse(alloc, &file) {
+        Ok(plan) => Ok(PlanRead::Taken(plan)),
+        Err(refused) => {
+            let answer = file_refusal(alloc, FileKind::Plan, plan.name(), &refused)?;
+            Ok(PlanRead::Refused(answer))
+        }
+    }
+}

@@ -1,0 +1,7 @@
+pub mod Run
+pub mod Stop
+pub mod Said
+pub mod Outcome
+pub mod Told
+pub mod Runs
+pub mod Refusal

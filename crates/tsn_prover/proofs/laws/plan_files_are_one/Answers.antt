@@ -1,5 +1,0 @@
-use Rattle.tsn_prover.proofs.LawLemmas.{plan_files_agree}
-use Rattle.tsn_prover.proofs.laws.plan_files_are_one.Goals as goal
-
-pub returns : goal.returns
-returns c = plan_files_agree

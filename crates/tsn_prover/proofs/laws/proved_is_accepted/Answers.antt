@@ -1,5 +1,0 @@
-use Rattle.tsn_prover.proofs.LawLemmas.{proved}
-use Rattle.tsn_prover.proofs.laws.proved_is_accepted.Goals as goal
-
-pub returns : goal.returns
-returns c = proved c.first_faults_refute.ensures

@@ -1,3 +1,0 @@
-pub mod Refusal
-pub mod Check
-pub mod Inputs
