@@ -1,6 +1,6 @@
 -- What a file holds that is no tree.
 use Rattle.std.proofs.Common.{◌≡◌, Option, Some, None, Ok, Err, refl, ap}
-use Rattle.std.specs.Prelude.{option_map}
+use Rattle.std.specs.Prelude.{option_and_then, option_map}
 use Rattle.serde_json.specs.Data.{Data}
 use Rattle.tsn_cert.specs.Fault.{named, answer, FaultGiven}
 use Rattle.tsn_cert.specs.declared.fault.FileFault.{FileFault}
@@ -19,17 +19,23 @@ named_none (Some x) e = cc
 no_tree : (d : Data) → named WrongShape (cert_of d) ≡ Err WrongShape → certificate_of d ≡ option_map kind.Argument (argument_of d)
 no_tree d e = ap (λ o. tree_or o (argument_of d)) (named_none (cert_of d) e)
 
-mapped_fault : {A B : Type 0} (f : A → B) (e : FileFault) (o : Option A) → FaultGiven e (named WrongShape o) → FaultGiven e (named WrongShape (option_map f o))
-mapped_fault f Memory o h = tt
-mapped_fault f WrongShape None h = refl
-mapped_fault f WrongShape (Some x) h = cc
-mapped_fault f NotJson None h = cc
-mapped_fault f NotJson (Some x) h = cc
-mapped_fault f NumberTooLarge None h = cc
-mapped_fault f NumberTooLarge (Some x) h = cc
+pub behind_none : {A B : Type 0} (o : Option A) → option_and_then {U = B} (λ x. None) o ≡ None
+behind_none None = refl
+behind_none (Some x) = refl
+
+-- a fault of a part is one of the whole
+pub fault_kept : {A B : Type 0} (e : FileFault) (o : Option A) (w : Option B) → (o ≡ None → w ≡ None) → FaultGiven e (named WrongShape o)
+    → FaultGiven e (named WrongShape w)
+fault_kept Memory o w h f = tt
+fault_kept WrongShape None w h f = ap (named WrongShape) (h refl)
+fault_kept WrongShape (Some x) w h f = cc
+fault_kept NotJson None w h f = cc
+fault_kept NotJson (Some x) w h f = cc
+fault_kept NumberTooLarge None w h f = cc
+fault_kept NumberTooLarge (Some x) w h f = cc
 
 pub other_fault : (o : Option Data) (d : Data) (e : FileFault) → named NotJson o ≡ Ok d → named WrongShape (cert_of d) ≡ Err WrongShape
     → FaultGiven e (named WrongShape (argument_of d)) → FaultGiven e (answer certificate_of certificate_fits o)
 other_fault o d e is none h =
     answer_fault certificate_of certificate_fits o d e is
-    (rw (no_tree d none) (mapped_fault kind.Argument e (argument_of d) h))
+    (rw (no_tree d none) (fault_kept e (argument_of d) (option_map kind.Argument (argument_of d)) (λ none. ap (option_map kind.Argument) none) h))

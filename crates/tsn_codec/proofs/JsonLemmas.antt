@@ -1,10 +1,10 @@
 -- What a reader answers, and loops that print the elements of an array.
-use Rattle.std.proofs.Common.{◌≡◌, ◌<◌, ◌≤◌, ◌+◌, ℕ, List, [], ◌∷◌, ◌++◌, length, take, get_or, map, Bool, true, false, Option, Some, None, Ok, Err, OnOk, refl, sym, ap, ap₂, ◌∙◌, arith, Vec, Ordering, Less, Equal, Greater}
+use Rattle.std.proofs.Common.{◌≡◌, ◌≤◌, ℕ, List, [], ◌∷◌, length, map, Bool, true, false, Option, Some, None, Ok, Err, OnOk, refl, sym, ap, ◌∙◌, arith, Vec, Ordering, Less, Equal, Greater}
 use Rattle.std.specs.Prelude.{suc, max, nat_eq, Result, option_map, unwrap_or, String}
 use Rattle.std.specs.declared.alloc.Global.{Global}
 use Rattle.std.specs.Str.{IsUtf8, is_utf8}
 use Rattle.std.proofs.lemmas.Str.{IsUtf8-from_is_utf8}
-use Rattle.std.proofs.lemmas.List.{take_more, length-map, map-append}
+use Rattle.std.proofs.lemmas.List.{length-map}
 use Rattle.std.specs.Ordering.{nat_cmp, match_ordering}
 use Rattle.std.specs.Cmp.Lexicographic.{slice_cmp}
 use Rattle.serde_json.specs.Data.{Data, null, boolean, number, string, array, object, item, Members, no_members, member, depth, members_depth}
@@ -13,11 +13,10 @@ use Rattle.serde_json.specs.Find.{as_object, get, get_member}
 use Rattle.serde_json.specs.View.{view, items_of, members_of, members_view}
 use Rattle.serde_json.specs.declared.value.Value.{Value, Array}
 use Rattle.serde_json.proofs.Views.{view-Array}
-use Rattle.tsn_cert.specs.Json.{when, value_of, member_count, is_object_of, items_of_list, array_value, number_value}
+use Rattle.tsn_cert.specs.Json.{when, value_of, member_count, is_object_of, items_of_list, array_value}
 use Rattle.tsn_cert.specs.Fault.{named, shaped, answer, FaultGiven}
 use Rattle.tsn_cert.specs.declared.fault.FileFault.{FileFault}
 use Rattle.tsn_cert.specs.declared.fault.FileFault.TheVariants.{NotJson, WrongShape, NumberTooLarge, Memory}
-use Rattle.tsn_cert.proofs.JsonLemmas.{taken_all}
 
 when_none : {A : Type 0} (b : Bool) (o : Option A) → (b ≡ true → o ≡ None) → when b o ≡ None
 when_none true o h = h refl
@@ -87,17 +86,6 @@ items_of-items_of_list (d ∷ ds) = ap (item d) (items_of-items_of_list ds)
 -- all elements were printed
 pub view-printed : (v : Vec Value Global) (ds : List Data) → map view v.items ≡ ds → view (Array v) ≡ array_value ds
 view-printed v ds e = view-Array v ∙ ap array (ap items_of e ∙ items_of-items_of_list ds)
-
--- the number at i was printed
-pub number_printed : (old new : List Value) (v : Value) (ns : List ℕ) (i : ℕ) → i < length ns → new ≡ old ++ v ∷ [] → view v ≡ number_value (get_or ns i 0)
-    → map view old ≡ map number_value (take i ns) → map view new ≡ map number_value (take (i + 1) ns)
-number_printed old new v ns i within pushed h e =
-    ap (map view) pushed ∙ map-append view old (v ∷ []) ∙ ap₂ (λ a b. a ++ b ∷ []) e h
-    ∙ sym (map-append number_value (take i ns) (get_or ns i 0 ∷ [])) ∙ ap (map number_value) (sym (take_more ns i 0 within))
-
-pub numbers_printed : (v : Vec Value Global) (ns : List ℕ) (i : ℕ) → length ns ≤ i → map view v.items ≡ map number_value (take i ns)
-    → view (Array v) ≡ array_value (map number_value ns)
-numbers_printed v ns i done e = view-printed v (map number_value ns) (e ∙ ap (map number_value) (taken_all ns i done))
 
 -- what holds anyway holds of a result that is there
 pub back : {A E R : Type 0} (r : Result A E) → R → OnOk r R

@@ -5,7 +5,7 @@ use Rattle.std.specs.Prelude.{option_and_then, option_map, unwrap_or, ◌==◌}
 use Rattle.serde_json.specs.Data.{Data, Members, null}
 use Rattle.serde_json.specs.Find.{as_object, get}
 use Rattle.tsn_cert.specs.Json.{value_of, when, whole_number, is_object_of, member_count}
-use Rattle.tsn_cert.specs.Fault.{named, FaultGiven}
+use Rattle.tsn_cert.specs.Fault.{named}
 use Rattle.tsn_cert.specs.declared.fault.FileFault.TheVariants as fault
 use Rattle.tsn_cert.specs.Cert.{cert_of}
 use Rattle.tsn_cert.specs.Argument.{argument_of, argument_of_values, argument_format, steps_in, goal_of}
@@ -13,7 +13,6 @@ use Rattle.tsn_cert.specs.Certificate.{certificate_of, tree_or}
 use Rattle.tsn_cert.specs.declared.cert.Cert.{Cert}
 use Rattle.tsn_cert.specs.declared.argument.Argument.{Argument}
 use Rattle.tsn_cert.specs.declared.certificate.Certificate.TheVariants as kind
-use Rattle.tsn_cert.specs.Told.{code_of}
 use Rattle.tsn_cert.specs.declared.refused.Excess.{Excess}
 use Rattle.tsn_cert.specs.declared.refused.Misfit.{Misfit}
 use Rattle.tsn_cert.specs.declared.refused.Refused.{Refused}
@@ -23,30 +22,12 @@ use Rattle.tsn_codec.proofs.JsonLemmas.{named_ok}
 use Rattle.tsn_codec.proofs.Plain.{followed}
 use Rattle.tsn_codec.proofs.Misfits.{why_up}
 
-no_shape : {A : Type 0} (o : Option A) → named fault.NotJson o ≡ Err fault.WrongShape → ⊥
-no_shape None e = absurd (cc)
-no_shape (Some x) e = absurd (cc)
-
-no_size : {A : Type 0} (o : Option A) → named fault.NotJson o ≡ Err fault.NumberTooLarge → ⊥
-no_size None e = absurd (cc)
-no_size (Some x) e = absurd (cc)
-
 module _ {A : Type 0} (grammar : Data → Option A) (IsOther : Data → Misfit → Type 0) (Exceeds : A → Excess → Type 0) (bytes : List ℕ) where
-  pub unread_told : (r : Refused) → FaultGiven (code_of r) (named fault.NotJson (value_of bytes)) → IsToldOf grammar IsOther Exceeds bytes r
-  unread_told (NotJson e) h = tt
-  unread_told (WrongShape m) h = absurd (no_shape (value_of bytes) h)
-  unread_told (NumberTooLarge e) h = absurd (no_size (value_of bytes) h)
-  unread_told Memory h = tt
-
   pub misfit_told : (d : Data) (r : Refused) → named fault.NotJson (value_of bytes) ≡ Ok d → IsWhy (IsOther d) r → IsToldOf grammar IsOther Exceeds bytes r
   misfit_told d (NotJson e) is h = tt
   misfit_told d (WrongShape m) is h = (d, named_ok fault.NotJson (value_of bytes) d is, h)
   misfit_told d (NumberTooLarge e) is h = absurd h
   misfit_told d Memory is h = tt
-
-  pub large_told : (d : Data) (x : A) (r : Refused) → value_of bytes ≡ Some d → grammar d ≡ Some x
-      → (e : Excess) × (r ≡ NumberTooLarge e) × Exceeds x e → IsToldOf grammar IsOther Exceeds bytes r
-  large_told d x r is said h = subst (IsToldOf grammar IsOther Exceeds bytes) (sym h.1) (d, x, is, said, h.2)
 
 four_not_three : (o : Option Members) → unwrap_or (option_map (λ ms. member_count ms == 4) o) false ≡ true
     → unwrap_or (option_map (λ ms. member_count ms == 3) o) false ≡ false

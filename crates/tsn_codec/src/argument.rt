@@ -24,7 +24,7 @@ use crate::file::{self, File};
 use crate::list::array_of;
 use crate::tokens::{Tokens, Unread};
 use json::Scratch;
-use serde_json::{Value, json};
+use serde_json::{Map, ToValue, Value};
 use std::alloc::{AllocError, Global};
 use tsn_cert::argument::ARGUMENT_FORMAT;
 use tsn_cert::{Argument, Excess, FileFault, Goal, Key, Misfit, Refused, Step, Steps};
@@ -89,7 +89,6 @@ impl File for Argument {
 }
 
 // The argument that the value is.
-#[tactic(auto, using(crate::proofs::JsonLemmas::get_depth, crate::proofs::Counted::argument_apart))]
 fn argument_from(alloc: Global, value: &Value) -> Result<Argument, Refused>
     requires { depth (view value.now) ≤ max_depth }
     ensures argument { Finds (λ argument. argument) result (argument_of (view value.now)) }
@@ -213,7 +212,13 @@ fn argument_value(alloc: Global, argument: &Argument) -> Result<Value, AllocErro
     ensures value { IfOk result (λ v. view v ≡ argument_value argument.now) }
     ensures reads_back { OnOk result (argument_of (argument_value argument.now) ≡ Some argument.now) }
 {
-    let steps = array_of::<Step>(alloc, argument.steps.list())?;
-    let word = goal::goal_word(argument.goal);
-    json!(in alloc; {"format": ARGUMENT_FORMAT, "goal": word, "steps": steps, "target": argument.target})
+    let members = Ok(Map::new(alloc));
+    let format = Ok(Value::from(ARGUMENT_FORMAT));
+    let members = document::with_member(alloc, members, "format", format);
+    let goal = goal::goal_word(argument.goal).to_value(alloc);
+    let members = document::with_member(alloc, members, "goal", goal);
+    let steps = array_of::<Step>(alloc, argument.steps.list());
+    let members = document::with_member(alloc, members, "steps", steps);
+    let target = Ok(Value::from(argument.target));
+    document::object(document::with_member(alloc, members, "target", target))
 }

@@ -86,7 +86,6 @@ impl File for Cert {
 }
 
 // The certificate that the value is.
-#[tactic(auto, using(crate::proofs::JsonLemmas::get_depth, crate::proofs::Counted::tree_apart))]
 fn cert_from(alloc: Global, value: &Value) -> Result<Cert, Refused>
     requires { depth (view value.now) ≤ max_depth }
     ensures cert { Finds (λ cert. cert) result (cert_of (view value.now)) }

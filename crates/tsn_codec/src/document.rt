@@ -1,11 +1,12 @@
 //! The parts that the values of files are read from and made of.
 ghost use Rattle.std.specs.Prelude.{◌≡◌, ◌≤◌, map, length, not, IsSome, find, option_map, IfErr, false, Some, None, IfOk, MatchResult, IsOkAnd, string_bytes, [], ◌∷◌, ◌++◌};
-ghost use Rattle.serde_json.specs.Data.{depth, string};
+ghost use Rattle.serde_json.specs.Data.{depth, string, object, put};
 ghost use Rattle.serde_json.specs.Find.{get};
 ghost use Rattle.serde_json.specs.Read.{max_depth};
-ghost use Rattle.serde_json.specs.View.{view};
+ghost use Rattle.serde_json.specs.View.{view, members_view};
 ghost use Rattle.serde_json.specs.Written.{has_float};
 ghost use Rattle.tsn_cert.specs.Json.{value_of, whole_number, is_object_of, number_value, array_value, file_text};
+ghost use Rattle.tsn_cert.specs.Cert.{lag_items};
 ghost use Rattle.tsn_cert.specs.Fault.{named};
 ghost use Rattle.tsn_cert.specs.Told.{key_name, Tells, Finds};
 ghost use Rattle.tsn_codec.specs.Matter.{IsWhy, IsUnknown, IsObject, absent_key, other_name};
@@ -17,7 +18,7 @@ ghost use Rattle.std.specs.String.{string_cmp};
 ghost use Rattle.std.specs.Str.{bytes_eq};
 ghost use Rattle.std.specs.BTreeMap.{keys as keys_of};
 
-use serde_json::{Map, ToValue, Value};
+use serde_json::{Map, ToValue, Value, put};
 use std::alloc::{AllocError, Global};
 use tsn_cert::{FileFault, Key, Misfit, Refused};
 use tsn_model::NoMemory;
@@ -113,17 +114,6 @@ pub fn is_object_of(value: &Value, count: usize) -> bool
     }
 }
 
-/// An array of indices.
-pub fn array_of_indices(alloc: Global, numbers: &[usize]) -> Result<Value, AllocError>
-    ensures { IfOk result (λ v. view v ≡ array_value (map number_value numbers.now)) }
-{
-    let mut items = Vec::with_capacity(alloc, numbers.len())?;
-    for number in numbers {
-        items.push(Value::from(*number))?;
-    }
-    Ok(Value::Array(items))
-}
-
 /// A list with one more element, where both could be made.
 pub fn with_item(
     items: Result<Vec<Value>, AllocError>,
@@ -137,6 +127,40 @@ pub fn with_item(
     Ok(items)
 }
 
+/// A list with these numbers behind its elements, where it could be made.
+pub fn with_numbers(
+    items: Result<Vec<Value>, AllocError>,
+    numbers: &[usize],
+) -> Result<Vec<Value>, AllocError>
+    ensures { IfOk result (λ v. IsOkAnd items (λ xs. map view v.items
+        ≡ map view xs.items ++ map number_value numbers.now)) }
+{
+    let mut items = items?;
+    for number in numbers {
+        items.push(Value::from(*number))?;
+    }
+    Ok(items)
+}
+
+/// The array of these elements, where they could be made.
+pub fn array(items: Result<Vec<Value>, AllocError>) -> Result<Value, AllocError>
+    ensures { IfOk result (λ v. IsOkAnd items (λ xs. view v ≡ array_value (map view xs.items))) }
+{
+    Ok(Value::Array(items?))
+}
+
+/// The array of these elements, and of a lag where that isn't 0.
+pub fn array_and_lag(items: Result<Vec<Value>, AllocError>, lag: i64) -> Result<Value, AllocError>
+    ensures { IfOk result (λ v. IsOkAnd items (λ xs. view v
+        ≡ array_value (map view xs.items ++ lag_items lag))) }
+{
+    if lag == 0 {
+        array(items)
+    } else {
+        array(with_item(items, Ok(Value::from(lag))))
+    }
+}
+
 /// An array of two elements.
 pub fn pair_value(
     alloc: Global,
@@ -147,16 +171,51 @@ pub fn pair_value(
         ≡ array_value (view a ∷ view b ∷ [])))) }
 {
     let items = with_item(Ok(Vec::new(alloc)), first);
-    Ok(Value::Array(with_item(items, second)?))
+    array(with_item(items, second))
 }
 
-/// A list of a word and a number.
-pub fn first_items(alloc: Global, word: &str, number: usize) -> Result<Vec<Value>, AllocError>
+/// A list of a word and numbers.
+pub fn first_items(alloc: Global, word: &str, numbers: &[usize]) -> Result<Vec<Value>, AllocError>
     ensures { IfOk result (λ v. map view v.items
-        ≡ string word.now ∷ number_value number ∷ []) }
+        ≡ string word.now ∷ map number_value numbers.now) }
 {
     let items = with_item(Ok(Vec::new(alloc)), word.to_value(alloc));
-    with_item(items, Ok(Value::from(number)))
+    with_numbers(items, numbers)
+}
+
+/// An array of a word, a number and a part, where that could be made.
+pub fn one_part_value(
+    alloc: Global,
+    word: &str,
+    number: usize,
+    part: Result<Value, AllocError>,
+) -> Result<Value, AllocError>
+    ensures { IfOk result (λ v. IsOkAnd part (λ p. view v
+        ≡ array_value (string word.now ∷ number_value number ∷ view p ∷ []))) }
+{
+    array(with_item(first_items(alloc, word, &[number]), part))
+}
+
+/// Members with one more, where these and its value could be made.
+pub fn with_member(
+    alloc: Global,
+    members: Result<Map<String, Value>, AllocError>,
+    key: &str,
+    value: Result<Value, AllocError>,
+) -> Result<Map<String, Value>, AllocError>
+    ensures { IfOk result (λ m. IsOkAnd members (λ ms. IsOkAnd value (λ v. members_view m.entries
+        ≡ put key.now (view v) (members_view ms.entries)))) }
+{
+    let mut members = members?;
+    put(&mut members, alloc, key, value?)?;
+    Ok(members)
+}
+
+/// The object of these members, where they could be made.
+pub fn object(members: Result<Map<String, Value>, AllocError>) -> Result<Value, AllocError>
+    ensures { IfOk result (λ v. IsOkAnd members (λ ms. view v ≡ object (members_view ms.entries))) }
+{
+    Ok(Value::Object(members?))
 }
 
 /// The text of a file that holds the value.

@@ -13,11 +13,11 @@ ghost use Rattle.tsn_cert.specs.declared.refused.Excess.{Excess};
 ghost use Rattle.tsn_codec.specs.Written.{PassesTarget, EndsWithTarget};
 
 use crate::document;
-use tsn_cert::{Excess, Refused};
 use crate::tokens::{Tokens, Unread};
 use json::Scratch;
 use serde_json::Value;
 use std::alloc::Global;
+use tsn_cert::{Excess, Refused};
 
 /// What a file holds.
 pub trait File: Sized + Drop {

@@ -1,9 +1,10 @@
 //! Plan files, read and printed.
-ghost use Rattle.std.specs.Prelude.{◌≡◌, ◌≤◌, IfOk, IfErr, string_bytes, IsTrue, Ok, position, not, nat_le};
-ghost use Rattle.serde_json.specs.Data.{depth};
+ghost use Rattle.std.specs.Prelude.{◌≡◌, ◌≤◌, IfOk, IfErr, string_bytes, IsTrue, Ok, Some, position, not, nat_le, codes};
+ghost use Rattle.serde_json.specs.Data.{depth, object, member, no_members};
 ghost use Rattle.serde_json.specs.Read.{max_depth};
 ghost use Rattle.serde_json.specs.View.{view};
-ghost use Rattle.tsn_cert.specs.Fault.{Gives};
+ghost use Rattle.tsn_cert.specs.Fault.{Gives, shaped};
+ghost use Rattle.tsn_cert.specs.declared.refused.Excess.{Excess};
 ghost use Rattle.tsn_cert.specs.Told.{Tells, Finds};
 ghost use Rattle.tsn_cert.specs.Json.{numbers};
 ghost use Rattle.tsn_cert.specs.Plan.{plan_of, plan_of_values, plan_fits, plan_in, plan_value, plan_text, max_time};
@@ -12,7 +13,7 @@ ghost use Rattle.tsn_codec.specs.Matter.{FindsExcess, IsPlanExcess, IsWhy, IsOff
 use crate::document;
 use crate::list::{Element, Unlisted, array_of, list_in};
 use crate::tokens::{Tokens, Unread};
-use serde_json::{Value, json};
+use serde_json::{Map, Value};
 use std::alloc::{AllocError, Global};
 use tsn_cert::plan::MAX_TIME;
 use tsn_cert::{Excess, FileFault, Key, Misfit, Offsets, Plan, Refused};
@@ -62,10 +63,25 @@ pub fn plan_or_refuse(alloc: Global, bytes: &[u8]) -> Result<Plan, Refused>
     ensures told { IfErr result (IsToldOfPlan bytes.now) }
 {
     let value = document::value_from(alloc, bytes)?;
-    let plan = plan_from(alloc, &value)?;
+    let read = plan_from(alloc, &value);
+    drop(value);
+    match read {
+        Ok(plan) => limited(plan),
+        Err(refused) => Err(refused),
+    }
+}
+
+// The plan, where each of its numbers is within its limit.
+fn limited(plan: Plan) -> Result<Plan, Refused>
+    ensures limits { Tells (λ plan. plan) result (shaped plan_fits (Some plan)) }
+    ensures told { IfErr result (λ refused. (e : Excess) × (refused ≡ Refused.NumberTooLarge e) × IsPlanExcess plan e) }
+{
     match excess(&plan) {
         None => Ok(plan),
-        Some(excess) => Err(Refused::NumberTooLarge(excess)),
+        Some(excess) => {
+            drop(plan);
+            Err(Refused::NumberTooLarge(excess))
+        }
     }
 }
 
@@ -88,14 +104,22 @@ fn value_of(alloc: Global, plan: &Plan) -> Result<Value, AllocError>
     match plan {
         Plan::Schedule { flowspan, offsets } => {
             let offsets = array_of::<u64>(alloc, offsets.list())?;
-            json!(in alloc; {"flowspan": *flowspan, "offsets": offsets})
+            members_value(alloc, Value::from(*flowspan), offsets)
         }
-        Plan::None => json!(in alloc; {"flowspan": null, "offsets": null}),
+        Plan::None => members_value(alloc, Value::Null, Value::Null),
     }
 }
 
+fn members_value(alloc: Global, flowspan: Value, offsets: Value) -> Result<Value, AllocError>
+    ensures { IfOk result (λ v. view v ≡ object (member (codes "flowspan") (view flowspan)
+        (member (codes "offsets") (view offsets) no_members))) }
+{
+    let members = Ok(Map::new(alloc));
+    let members = document::with_member(alloc, members, "flowspan", Ok(flowspan));
+    document::object(document::with_member(alloc, members, "offsets", Ok(offsets)))
+}
+
 // The plan that the value is.
-#[tactic(auto, using(crate::proofs::JsonLemmas::get_depth, crate::proofs::Counted::plan_apart))]
 fn plan_from(alloc: Global, value: &Value) -> Result<Plan, Refused>
     requires { depth (view value.now) ≤ max_depth }
     ensures plan { Finds (λ plan. plan) result (plan_of (view value.now)) }

@@ -1,19 +1,20 @@
 //! Moves of an argument, and their frames, read and printed.
-ghost use Rattle.std.specs.Prelude.{◌≡◌, IfOk, OnOk, Some};
+ghost use Rattle.std.specs.Prelude.{◌≡◌, drop, IfOk, OnOk, Some};
 ghost use Rattle.std.specs.List.{list_any};
 ghost use Rattle.serde_json.specs.View.{view};
 ghost use Rattle.tsn_cert.specs.declared.motion.Move.TheVariants as form;
-ghost use Rattle.tsn_cert.specs.Form.{row_of};
+ghost use Rattle.tsn_cert.specs.Form.{becomes, row_of};
 ghost use Rattle.tsn_cert.specs.Json.{worded_value};
 ghost use Rattle.tsn_cert.specs.Move.{later_row, frame_form, frame_value, frames_form, frames_of, frames_value, placing_row, placing_parts, placing_items, pack_row, round_row, follow_row, motions, move_form, move_in, move_value};
 ghost use Rattle.tsn_codec.specs.ArgumentSays.{frame_element, move_element};
 ghost use Rattle.tsn_codec.specs.Matter.{order_lags, move_lags};
 ghost use Rattle.tsn_codec.specs.Takes.{Takes};
 
-use crate::argument::parts::{last_number, order, order_behind, orders, orders_value};
+use crate::argument::parts::{last_number, order, order_behind, orders, orders_value, worded};
+use crate::document;
 use crate::list::{Element, array_of, few};
 use crate::tokens::{Tokens, Unread};
-use serde_json::{Value, json};
+use serde_json::{ToValue, Value};
 use std::alloc::{AllocError, Global};
 use tsn_cert::motion::MAX_FRAMES;
 use tsn_cert::{Frames, Move, Order, Orders, Placing};
@@ -60,7 +61,8 @@ impl Element for Frame {
         if self.shift == 0 {
             Ok(Value::from(self.stream))
         } else {
-            json!(in alloc; [self.stream, self.shift])
+            let numbers = &[self.stream, self.shift as usize];
+            document::array(document::with_numbers(Ok(Vec::new(alloc)), numbers))
         }
     }
 
@@ -79,7 +81,7 @@ fn frames(tokens: &mut Tokens<'_>) -> Result<Frames, Unread>
 #[tactic(auto, using(crate::proofs::Elements::map_same))]
 fn frames_value(alloc: Global, frames: &Frames) -> Result<Value, AllocError>
     ensures value { IfOk result (λ v. view v ≡ frames_value frames.now) }
-    ensures reads_back { OnOk result (frames_of (frames_value frames.now) ≡ Some frames.now) }
+    ensures reads_back { frames_of (frames_value frames.now) ≡ Some frames.now }
 {
     array_of::<Frame>(alloc, frames.list())
 }
@@ -104,32 +106,32 @@ fn placing(tokens: &mut Tokens<'_>) -> Result<Placing, Unread>
 }
 
 // A link and frames, with the end of their array.
-fn pack(tokens: &mut Tokens<'_>) -> Result<(usize, Frames), Unread>
-    ensures { Takes (λ pack. pack) result (pack_row.rest tokens.old) tokens.new }
+fn pack(tokens: &mut Tokens<'_>) -> Result<Move, Unread>
+    ensures { Takes (λ motion. motion) result ((becomes (λ p. form.Pack p.0 p.1) pack_row).rest tokens.old) tokens.new }
 {
     let link = tokens.index()?;
     let frames = frames(tokens)?;
     tokens.close_array()?;
-    Ok((link, frames))
+    Ok(Move::Pack(link, frames))
 }
 
 // Orders alone, with the end of their array.
-fn round(tokens: &mut Tokens<'_>) -> Result<Orders, Unread>
-    ensures { Takes (λ orders. orders) result (round_row.rest tokens.old) tokens.new }
+fn round(tokens: &mut Tokens<'_>) -> Result<Move, Unread>
+    ensures { Takes (λ motion. motion) result ((becomes form.Round round_row).rest tokens.old) tokens.new }
 {
     let orders = orders(tokens)?;
     tokens.close_array()?;
-    Ok(orders)
+    Ok(Move::Round(orders))
 }
 
 // Two orders, with the end of their array.
-fn follow(tokens: &mut Tokens<'_>) -> Result<(Order, Order), Unread>
-    ensures { Takes (λ orders. orders) result (follow_row.rest tokens.old) tokens.new }
+fn follow(tokens: &mut Tokens<'_>) -> Result<Move, Unread>
+    ensures { Takes (λ motion. motion) result ((becomes (λ p. form.Follow p.0 p.1) follow_row).rest tokens.old) tokens.new }
 {
     let known = Order::take(tokens)?;
     let weaker = Order::take(tokens)?;
     tokens.close_array()?;
-    Ok((known, weaker))
+    Ok(Move::Follow(known, weaker))
 }
 
 // An array of a word and a placing.
@@ -138,10 +140,10 @@ fn placing_behind(alloc: Global, word: &str, placing: &Placing) -> Result<Value,
     ensures value { IfOk result (λ v. view v ≡ worded_value word.now (placing_items placing.now)) }
     ensures reads_back { OnOk result (placing_parts (placing_items placing.now) ≡ Some placing.now) }
 {
-    let frame = placing.frame.print(alloc)?;
-    let others = frames_value(alloc, &placing.others)?;
-    let some = frames_value(alloc, &placing.some)?;
-    json!(in alloc; [word, placing.link, frame, others, some])
+    let items = document::first_items(alloc, word, &[placing.link]);
+    let items = document::with_item(items, placing.frame.print(alloc));
+    let items = document::with_item(items, frames_value(alloc, &placing.others));
+    document::array(document::with_item(items, frames_value(alloc, &placing.some)))
 }
 
 #[tactic(auto, using(tsn_cert::proofs::MoveLemmas::pack_back))]
@@ -149,8 +151,7 @@ fn pack_value(alloc: Global, link: usize, frames: &Frames) -> Result<Value, Allo
     ensures value { IfOk result (λ v. view v ≡ move_value (form.Pack link frames.now)) }
     ensures reads_back { OnOk result (move_in (move_value (form.Pack link frames.now)) ≡ Some (form.Pack link frames.now)) }
 {
-    let frames = frames_value(alloc, frames)?;
-    json!(in alloc; ["pack", link, frames])
+    document::one_part_value(alloc, "pack", link, frames_value(alloc, frames))
 }
 
 #[tactic(auto, using(tsn_cert::proofs::MoveLemmas::round_back))]
@@ -158,8 +159,7 @@ fn round_value(alloc: Global, orders: &Orders) -> Result<Value, AllocError>
     ensures value { IfOk result (λ v. view v ≡ move_value (form.Round orders.now)) }
     ensures reads_back { OnOk result (move_in (move_value (form.Round orders.now)) ≡ Some (form.Round orders.now)) }
 {
-    let orders = orders_value(alloc, orders)?;
-    json!(in alloc; ["round", orders])
+    document::pair_value(alloc, "round".to_value(alloc), orders_value(alloc, orders))
 }
 
 #[tactic(auto, using(tsn_cert::proofs::MoveLemmas::follow_back))]
@@ -167,9 +167,9 @@ fn follow_value(alloc: Global, known: Order, weaker: Order) -> Result<Value, All
     ensures value { IfOk result (λ v. view v ≡ move_value (form.Follow known weaker)) }
     ensures reads_back { OnOk result (move_in (move_value (form.Follow known weaker)) ≡ Some (form.Follow known weaker)) }
 {
-    let known = known.print(alloc)?;
-    let weaker = weaker.print(alloc)?;
-    json!(in alloc; ["follow", known, weaker])
+    let items = document::first_items(alloc, "follow", &[]);
+    let items = document::with_item(items, known.print(alloc));
+    document::array(document::with_item(items, weaker.print(alloc)))
 }
 
 // ---- moves
@@ -184,20 +184,36 @@ fn motion(tokens: &mut Tokens<'_>, word: &str) -> Result<Move, Unread>
         Ok(Move::Turn(order(tokens)?))
     } else if word == "use" {
         Ok(Move::Use(last_number(tokens)? as usize))
-    } else if word == "arrive" {
+    } else {
+        placing_motion(tokens, word)
+    }
+}
+
+// The same of the words behind the first three.
+fn placing_motion(tokens: &mut Tokens<'_>, word: &str) -> Result<Move, Unread>
+    ensures { Takes (λ motion. motion) result ((row_of (drop 3 motions) word.now).rest tokens.old) tokens.new }
+{
+    if word == "arrive" {
         Ok(Move::Arrive(last_number(tokens)? as usize))
     } else if word == "last" {
         Ok(Move::Last(placing(tokens)?))
     } else if word == "first" {
         Ok(Move::First(placing(tokens)?))
-    } else if word == "pack" {
-        let (link, frames) = pack(tokens)?;
-        Ok(Move::Pack(link, frames))
+    } else {
+        last_motion(tokens, word)
+    }
+}
+
+// The same of the last three words.
+fn last_motion(tokens: &mut Tokens<'_>, word: &str) -> Result<Move, Unread>
+    ensures { Takes (λ motion. motion) result ((row_of (drop 6 motions) word.now).rest tokens.old) tokens.new }
+{
+    if word == "pack" {
+        pack(tokens)
     } else if word == "round" {
-        Ok(Move::Round(round(tokens)?))
+        round(tokens)
     } else if word == "follow" {
-        let (known, weaker) = follow(tokens)?;
-        Ok(Move::Follow(known, weaker))
+        follow(tokens)
     } else {
         Err(Unread::OtherForm)
     }
@@ -225,8 +241,8 @@ impl Element for Move {
         match self {
             Move::Go(order) => order_behind(alloc, "go", *order),
             Move::Turn(order) => order_behind(alloc, "turn", *order),
-            Move::Use(number) => json!(in alloc; ["use", *number]),
-            Move::Arrive(stream) => json!(in alloc; ["arrive", *stream]),
+            Move::Use(number) => worded(alloc, "use", &[*number]),
+            Move::Arrive(stream) => worded(alloc, "arrive", &[*stream]),
             Move::Last(placing) => placing_behind(alloc, "last", placing),
             Move::First(placing) => placing_behind(alloc, "first", placing),
             Move::Pack(link, frames) => pack_value(alloc, *link, frames),

@@ -1,17 +1,18 @@
 //! Orders and facts of an argument, read and printed.
-ghost use Rattle.std.specs.Prelude.{◌≡◌, IfOk, OnOk, Some};
+ghost use Rattle.std.specs.Prelude.{◌≡◌, drop, IfOk, OnOk, Some, map};
 ghost use Rattle.serde_json.specs.View.{view};
 ghost use Rattle.tsn_cert.specs.Form.{row_of, number_row};
-ghost use Rattle.tsn_cert.specs.Json.{worded_value};
+ghost use Rattle.tsn_cert.specs.Json.{number_value, worded_value};
 ghost use Rattle.tsn_cert.specs.Order.{order_row, order_form, orders_form, order_in, order_items, order_value, orders_of, orders_value};
 ghost use Rattle.tsn_cert.specs.Fact.{bound_row, facts, fact_form, fact_value};
 ghost use Rattle.tsn_codec.specs.ArgumentSays.{order_element};
 ghost use Rattle.tsn_codec.specs.ArgumentSays.{fact_element};
 ghost use Rattle.tsn_codec.specs.Takes.{Takes};
 
+use crate::document;
 use crate::list::{Element, array_of, few};
 use crate::tokens::{Tokens, Unread};
-use serde_json::{Value, json};
+use serde_json::Value;
 use std::alloc::{AllocError, Global};
 use tsn_cert::order::MAX_ORDERS;
 use tsn_cert::{Fact, Order, Orders};
@@ -52,11 +53,9 @@ impl Element for Order {
 
     #[tactic(auto, using(tsn_cert::proofs::OrderLemmas::order_back))]
     fn print(&self, alloc: Global) -> Result<Value, AllocError> {
-        if self.lag == 0 {
-            json!(in alloc; [self.first, self.second, self.link])
-        } else {
-            json!(in alloc; [self.first, self.second, self.link, self.lag])
-        }
+        let numbers = &[self.first, self.second, self.link];
+        let items = document::with_numbers(Ok(Vec::new(alloc)), numbers);
+        document::array_and_lag(items, self.lag)
     }
 
     ghost says = { order_element };
@@ -85,11 +84,15 @@ pub(super) fn order_behind(alloc: Global, word: &str, order: Order) -> Result<Va
     ensures value { IfOk result (λ v. view v ≡ worded_value word.now (order_items order)) }
     ensures reads_back { OnOk result (order_in (order_value order) ≡ Some order) }
 {
-    if order.lag == 0 {
-        json!(in alloc; [word, order.first, order.second, order.link])
-    } else {
-        json!(in alloc; [word, order.first, order.second, order.link, order.lag])
-    }
+    let numbers = &[order.first, order.second, order.link];
+    document::array_and_lag(document::first_items(alloc, word, numbers), order.lag)
+}
+
+// An array of a word and numbers.
+pub(super) fn worded(alloc: Global, word: &str, numbers: &[usize]) -> Result<Value, AllocError>
+    ensures { IfOk result (λ v. view v ≡ worded_value word.now (map number_value numbers.now)) }
+{
+    document::array(document::first_items(alloc, word, numbers))
 }
 
 // ---- facts
@@ -125,7 +128,16 @@ fn fact(tokens: &mut Tokens<'_>, word: &str) -> Result<Fact, Unread>
         Ok(Fact::Until(stream, time))
     } else if word == "order" {
         Ok(Fact::Order(order(tokens)?))
-    } else if word == "done_from" {
+    } else {
+        done_fact(tokens, word)
+    }
+}
+
+// The same of the last two words.
+fn done_fact(tokens: &mut Tokens<'_>, word: &str) -> Result<Fact, Unread>
+    ensures { Takes (λ fact. fact) result ((row_of (drop 3 facts) word.now).rest tokens.old) tokens.new }
+{
+    if word == "done_from" {
         Ok(Fact::DoneFrom(last_number(tokens)?))
     } else if word == "done_until" {
         Ok(Fact::DoneUntil(last_number(tokens)?))
@@ -154,11 +166,11 @@ impl Element for Fact {
     #[tactic(auto, using(tsn_cert::proofs::FactLemmas::order_fact_back))]
     fn print(&self, alloc: Global) -> Result<Value, AllocError> {
         match self {
-            Fact::From(stream, time) => json!(in alloc; ["from", *stream, *time]),
-            Fact::Until(stream, time) => json!(in alloc; ["until", *stream, *time]),
+            Fact::From(stream, time) => worded(alloc, "from", &[*stream, *time as usize]),
+            Fact::Until(stream, time) => worded(alloc, "until", &[*stream, *time as usize]),
             Fact::Order(order) => order_behind(alloc, "order", *order),
-            Fact::DoneFrom(time) => json!(in alloc; ["done_from", *time]),
-            Fact::DoneUntil(time) => json!(in alloc; ["done_until", *time]),
+            Fact::DoneFrom(time) => worded(alloc, "done_from", &[*time as usize]),
+            Fact::DoneUntil(time) => worded(alloc, "done_until", &[*time as usize]),
         }
     }
 

@@ -5,9 +5,10 @@ ghost use Rattle.tsn_codec.specs.ArgumentSays.{step_element};
 ghost use Rattle.tsn_codec.specs.Steps.{TakesStep, MovesStop, moves_end, PartsStop, parts_end, StepStops, TakesSteps, TakesArray, unread_of};
 ghost use Rattle.tsn_codec.specs.Takes.{Takes};
 
+use crate::document;
 use crate::list::{Element, Unlisted, array_of, list_or_why};
 use crate::tokens::{Tokens, Unread};
-use serde_json::{Value, json};
+use serde_json::Value;
 use std::alloc::{AllocError, Global};
 use tsn_cert::{Clause, Fact, Key, Misfit, Move, Moves, Part, Refused, Step, Steps};
 
@@ -31,9 +32,9 @@ impl Element for Step {
 
     #[tactic(auto, using(tsn_cert::proofs::ArgumentLemmas::step_back, crate::proofs::Elements::map_same))]
     fn print(&self, alloc: Global) -> Result<Value, AllocError> {
-        let clause = array_of::<Fact>(alloc, self.clause.list())?;
-        let moves = array_of::<Move>(alloc, self.moves.list())?;
-        json!(in alloc; [clause, moves])
+        let clause = array_of::<Fact>(alloc, self.clause.list());
+        let moves = array_of::<Move>(alloc, self.moves.list());
+        document::pair_value(alloc, clause, moves)
     }
 
     ghost says = { step_element };

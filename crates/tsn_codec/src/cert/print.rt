@@ -10,7 +10,7 @@ ghost use Rattle.tsn_cert.specs.Cert.{chain_list, chains_of, chains_value, entry
 
 use crate::document;
 use crate::list::array_of;
-use serde_json::{ToValue, Value, json};
+use serde_json::{Map, ToValue, Value};
 use std::alloc::{AllocError, Global};
 use tsn_cert::chain::{Chain, Chains, MAX_CHAIN};
 use tsn_cert::{Entries, Entry, Leaf, LowerBound, Node};
@@ -26,7 +26,11 @@ pub(super) fn cert_value(
         (member (codes "nodes") (view nodes)
         (member (codes "target") (number_value target) no_members)))) }
 {
-    json!(in alloc; {"format": format, "nodes": nodes, "target": target})
+    let members = Ok(Map::new(alloc));
+    let members = document::with_member(alloc, members, "format", Ok(Value::from(format)));
+    let members = document::with_member(alloc, members, "nodes", Ok(nodes));
+    let target = Ok(Value::from(target));
+    document::object(document::with_member(alloc, members, "target", target))
 }
 
 pub(super) fn node_value(alloc: Global, node: &Node) -> Result<Value, AllocError>
@@ -49,7 +53,7 @@ fn leaf_value(alloc: Global, leaf: &Leaf) -> Result<Value, AllocError>
     match leaf {
         Leaf::Bound(bound) => bound_value(alloc, bound),
         Leaf::Overrun(stream, chain) => {
-            one_part_value(alloc, "overrun", *stream, chain_value(alloc, chain))
+            document::one_part_value(alloc, "overrun", *stream, chain_value(alloc, chain))
         }
         Leaf::Cycle(chain) => document::pair_value(
             alloc,
@@ -57,7 +61,7 @@ fn leaf_value(alloc: Global, leaf: &Leaf) -> Result<Value, AllocError>
             chain_value(alloc, chain),
         ),
         Leaf::Overload(link, entries) => {
-            one_part_value(alloc, "overload", *link, entries_value(alloc, entries))
+            document::one_part_value(alloc, "overload", *link, entries_value(alloc, entries))
         }
     }
 }
@@ -69,10 +73,10 @@ fn bound_value(alloc: Global, bound: &LowerBound) -> Result<Value, AllocError>
 {
     match bound {
         LowerBound::Late(stream, chain) => {
-            one_part_value(alloc, "late", *stream, chain_value(alloc, chain))
+            document::one_part_value(alloc, "late", *stream, chain_value(alloc, chain))
         }
         LowerBound::Load(link, entries) => {
-            one_part_value(alloc, "load", *link, entries_value(alloc, entries))
+            document::one_part_value(alloc, "load", *link, entries_value(alloc, entries))
         }
     }
 }
@@ -111,21 +115,8 @@ fn two_part_value(
     ensures { IfOk result (λ v. IsOkAnd first (λ p. IsOkAnd second (λ c. view v
         ≡ array_value (string word.now ∷ number_value number ∷ view p ∷ view c ∷ [])))) }
 {
-    let items = document::with_item(document::first_items(alloc, word, number), first);
-    Ok(Value::Array(document::with_item(items, second)?))
-}
-
-// An array of a word, a number and a part, where that could be made.
-fn one_part_value(
-    alloc: Global,
-    word: &str,
-    number: usize,
-    part: Result<Value, AllocError>,
-) -> Result<Value, AllocError>
-    ensures { IfOk result (λ v. IsOkAnd part (λ p. view v
-        ≡ array_value (string word.now ∷ number_value number ∷ view p ∷ []))) }
-{
-    Ok(Value::Array(document::with_item(document::first_items(alloc, word, number), part)?))
+    let items = document::with_item(document::first_items(alloc, word, &[number]), first);
+    document::array(document::with_item(items, second))
 }
 
 #[tactic(auto, using(crate::proofs::CertLemmas::chains_back, crate::proofs::Elements::map_same))]
@@ -149,11 +140,13 @@ pub(super) fn entry_value(alloc: Global, entry: &Entry) -> Result<Value, AllocEr
     ensures reads_back { OnOk result (entry_of (entry_value entry.now) ≡ Some entry.now) }
 {
     let frame = entry.frame;
-    let chain = chain_value(alloc, &entry.chain)?;
+    let chain = chain_value(alloc, &entry.chain);
     if frame.shift == 0 {
-        json!(in alloc; [frame.stream, chain])
+        document::pair_value(alloc, Ok(Value::from(frame.stream)), chain)
     } else {
-        json!(in alloc; [frame.stream, frame.shift, chain])
+        let numbers = &[frame.stream, frame.shift as usize];
+        let items = document::with_numbers(Ok(Vec::new(alloc)), numbers);
+        document::array(document::with_item(items, chain))
     }
 }
 
@@ -163,11 +156,8 @@ fn branch_value(alloc: Global, triple: &Triple) -> Result<Value, AllocError>
     ensures reads_back { OnOk result
         (node_of (node_value (split_node triple.now)) ≡ Some (split_node triple.now)) }
 {
-    if triple.lag == 0 {
-        json!(in alloc; ["branch", triple.left, triple.right, triple.link])
-    } else {
-        json!(in alloc; ["branch", triple.left, triple.right, triple.link, triple.lag])
-    }
+    let items = document::first_items(alloc, "branch", &[triple.left, triple.right, triple.link]);
+    document::array_and_lag(items, triple.lag)
 }
 
 pub(super) fn chain_value(alloc: Global, chain: &Chain) -> Result<Value, AllocError>
@@ -175,5 +165,6 @@ pub(super) fn chain_value(alloc: Global, chain: &Chain) -> Result<Value, AllocEr
     ensures short { length chain.now ≤ MAX_CHAIN }
 {
     let depths = chain.to_vec(alloc)?;
-    document::array_of_indices(alloc, &depths)
+    let items = Vec::with_capacity(alloc, depths.len());
+    document::array(document::with_numbers(items, &depths))
 }

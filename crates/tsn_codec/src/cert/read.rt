@@ -1,6 +1,7 @@
 //! The parts of a certificate, read from tokens.
-ghost use Rattle.std.specs.Prelude.{◌≡◌};
-ghost use Rattle.tsn_cert.specs.Form.{either_row, row_of};
+ghost use Rattle.std.specs.Prelude.{◌≡◌, drop};
+ghost use Rattle.tsn_model.specs.Certificate.{split_node, leaf_node, tie_node, late, positive_cycle, load};
+ghost use Rattle.tsn_cert.specs.Form.{becomes, either_row, row_of};
 ghost use Rattle.tsn_cert.specs.Node.{tree_node};
 ghost use Rattle.tsn_cert.specs.Cert.{chain_form, chains_form, reason_row, triple_row, cycle_row, first_entry_row, later_entry_row, entry_form, entries_form, chain_value, entry_value, node_value, load_row, tie_row, tie_load_row, node_rows, node_form, nodes_form, format_form, format_numbered};
 ghost use Rattle.tsn_codec.specs.Takes.{Takes};
@@ -106,19 +107,19 @@ fn entries(tokens: &mut Tokens<'_>) -> Result<Entries, Unread>
 // ---- what stands behind the word of a node
 
 // Two streams, a link and a lag, with the end of their array.
-fn triple(tokens: &mut Tokens<'_>) -> Result<Triple, Unread>
-    ensures { Takes (λ triple. triple) result (triple_row.rest tokens.old) tokens.new }
+fn branch(tokens: &mut Tokens<'_>) -> Result<Node, Unread>
+    ensures { Takes tree_node result ((becomes split_node triple_row).rest tokens.old) tokens.new }
 {
     let left = tokens.index()?;
     let right = tokens.index()?;
     let link = tokens.index()?;
     let lag = tokens.lag_and_end()?;
-    Ok(Triple {
+    Ok(Node::Branch(Triple {
         left,
         right,
         link,
         lag,
-    })
+    }))
 }
 
 // A stream and a chain, with the end of their array.
@@ -132,12 +133,12 @@ fn reason(tokens: &mut Tokens<'_>) -> Result<(usize, Chain), Unread>
 }
 
 // A chain alone, with the end of its array.
-fn cycle(tokens: &mut Tokens<'_>) -> Result<Chain, Unread>
-    ensures { Takes (λ chain. chain) result (cycle_row.rest tokens.old) tokens.new }
+fn cycle(tokens: &mut Tokens<'_>) -> Result<Node, Unread>
+    ensures { Takes tree_node result ((becomes (λ depths. leaf_node (positive_cycle depths)) cycle_row).rest tokens.old) tokens.new }
 {
     let chain = tokens.chain()?;
     tokens.close_array()?;
-    Ok(chain)
+    Ok(Node::Leaf(Leaf::Cycle(chain)))
 }
 
 // A link and entries, with the end of their array.
@@ -151,25 +152,25 @@ fn load(tokens: &mut Tokens<'_>) -> Result<(usize, Entries), Unread>
 }
 
 // A stream, a chain and chains, with the end of their array.
-fn tie(tokens: &mut Tokens<'_>) -> Result<(usize, Chain, Chains), Unread>
-    ensures { Takes (λ tie. tie) result (tie_row.rest tokens.old) tokens.new }
+fn tie(tokens: &mut Tokens<'_>) -> Result<Node, Unread>
+    ensures { Takes tree_node result ((becomes (λ t. tie_node (late t.0 t.1) t.2) tie_row).rest tokens.old) tokens.new }
 {
     let stream = tokens.index()?;
     let chain = tokens.chain()?;
     let chains = chains(tokens)?;
     tokens.close_array()?;
-    Ok((stream, chain, chains))
+    Ok(Node::Tie(LowerBound::Late(stream, chain), chains))
 }
 
 // A link, entries and chains, with the end of their array.
-fn tie_load(tokens: &mut Tokens<'_>) -> Result<(usize, Entries, Chains), Unread>
-    ensures { Takes (λ tie. tie) result (tie_load_row.rest tokens.old) tokens.new }
+fn tie_load(tokens: &mut Tokens<'_>) -> Result<Node, Unread>
+    ensures { Takes tree_node result ((becomes (λ t. tie_node (load t.0 t.1) t.2) tie_load_row).rest tokens.old) tokens.new }
 {
     let link = tokens.index()?;
     let entries = entries(tokens)?;
     let chains = chains(tokens)?;
     tokens.close_array()?;
-    Ok((link, entries, chains))
+    Ok(Node::Tie(LowerBound::Load(link, entries), chains))
 }
 
 // ---- nodes
@@ -179,7 +180,7 @@ fn node(tokens: &mut Tokens<'_>, word: &str) -> Result<Node, Unread>
     ensures { Takes tree_node result ((row_of node_rows word.now).rest tokens.old) tokens.new }
 {
     if word == "branch" {
-        Ok(Node::Branch(triple(tokens)?))
+        branch(tokens)
     } else if word == "late" {
         let (stream, chain) = reason(tokens)?;
         Ok(Node::Leaf(Leaf::Bound(LowerBound::Late(stream, chain))))
@@ -187,19 +188,26 @@ fn node(tokens: &mut Tokens<'_>, word: &str) -> Result<Node, Unread>
         let (stream, chain) = reason(tokens)?;
         Ok(Node::Leaf(Leaf::Overrun(stream, chain)))
     } else if word == "cycle" {
-        Ok(Node::Leaf(Leaf::Cycle(cycle(tokens)?)))
-    } else if word == "load" {
+        cycle(tokens)
+    } else {
+        later_node(tokens, word)
+    }
+}
+
+// The same of the words behind the first four.
+fn later_node(tokens: &mut Tokens<'_>, word: &str) -> Result<Node, Unread>
+    ensures { Takes tree_node result ((row_of (drop 4 node_rows) word.now).rest tokens.old) tokens.new }
+{
+    if word == "load" {
         let (link, entries) = load(tokens)?;
         Ok(Node::Leaf(Leaf::Bound(LowerBound::Load(link, entries))))
     } else if word == "overload" {
         let (link, entries) = load(tokens)?;
         Ok(Node::Leaf(Leaf::Overload(link, entries)))
     } else if word == "tie" {
-        let (stream, chain, chains) = tie(tokens)?;
-        Ok(Node::Tie(LowerBound::Late(stream, chain), chains))
+        tie(tokens)
     } else if word == "tieload" {
-        let (link, entries, chains) = tie_load(tokens)?;
-        Ok(Node::Tie(LowerBound::Load(link, entries), chains))
+        tie_load(tokens)
     } else {
         Err(Unread::OtherForm)
     }
