@@ -1,6 +1,7 @@
 //! The lines of JSON.
 ghost use Rattle.std.specs.Prelude.{◌≡◌, ◌++◌, ◌<◌, IfOk, OnOk, false, length, string_bytes};
-ghost use Rattle.serde_json.specs.View.{view};
+ghost use Rattle.serde_json.specs.Data.{object};
+ghost use Rattle.serde_json.specs.View.{members_view, view};
 ghost use Rattle.serde_json.specs.Written.{has_float};
 ghost use Rattle.tsn_chart.specs.Json.{line_text, link_json, link_value, several_value, stream_json, stream_value, windows_value};
 
@@ -8,8 +9,9 @@ use crate::format::Format;
 use crate::frames::sends_several;
 use crate::link::LinkShare;
 use crate::stream::StreamShare;
-use serde_json::{Value, json};
+use serde_json::{Map, Value};
 use std::alloc::{AllocError, Global};
+use tsn_gate::json::{put_number, put_text};
 use tsn_gate::list::names;
 use tsn_timing::Problem;
 
@@ -46,11 +48,8 @@ fn stream_value(alloc: Global, problem: &Problem, share: &StreamShare) -> Result
     requires { share.now.stream < length problem.now.stream_names }
     ensures { IfOk result (λ value. view value ≡ stream_value problem.now share.now) }
 {
-    let stream = Value::String(String::from_str(alloc, problem.stream_name(share.stream))?);
-    json!(in alloc; {
-        "arrival": share.arrival, "latency": share.latency, "offset": share.offset, "stream": stream,
-        "to_cycle": share.to_cycle, "to_latest": share.to_latest
-    })
+    let members = stream_members(alloc, problem, share)?;
+    Ok(Value::Object(members))
 }
 
 // The object of a stream, with its period and its frames in it.
@@ -58,37 +57,70 @@ fn several_value(alloc: Global, problem: &Problem, share: &StreamShare) -> Resul
     requires { share.now.stream < length problem.now.stream_names }
     ensures { IfOk result (λ value. view value ≡ several_value problem.now share.now) }
 {
-    let stream = Value::String(String::from_str(alloc, problem.stream_name(share.stream))?);
-    json!(in alloc; {
-        "arrival": share.arrival, "frames": share.frames, "latency": share.latency, "offset": share.offset,
-        "period": share.period, "stream": stream, "to_cycle": share.to_cycle, "to_latest": share.to_latest
-    })
+    let mut members = stream_members(alloc, problem, share)?;
+    put_number(&mut members, alloc, "frames", share.frames)?;
+    put_number(&mut members, alloc, "period", share.period)?;
+    Ok(Value::Object(members))
+}
+
+fn stream_members(
+    alloc: Global,
+    problem: &Problem,
+    share: &StreamShare,
+) -> Result<Map<String, Value>, AllocError>
+    requires { share.now.stream < length problem.now.stream_names }
+    ensures { IfOk result (λ members. object (members_view members.entries) ≡ stream_value problem.now share.now) }
+{
+    let mut members = Map::new(alloc);
+    put_number(&mut members, alloc, "arrival", share.arrival)?;
+    put_number(&mut members, alloc, "latency", share.latency)?;
+    put_number(&mut members, alloc, "offset", share.offset)?;
+    put_text(
+        &mut members,
+        alloc,
+        "stream",
+        problem.stream_name(share.stream),
+    )?;
+    put_number(&mut members, alloc, "to_cycle", share.to_cycle)?;
+    put_number(&mut members, alloc, "to_latest", share.to_latest)?;
+    Ok(members)
 }
 
 fn link_value(alloc: Global, problem: &Problem, share: &LinkShare) -> Result<Value, AllocError>
     requires { share.now.link < length problem.now.network.links }
     ensures { IfOk result (λ value. view value ≡ link_value problem.now share.now) }
 {
-    let (from, to) = names(problem, share.link);
-    let from = Value::String(String::from_str(alloc, from)?);
-    let to = Value::String(String::from_str(alloc, to)?);
-    json!(in alloc; {
-        "from": from, "guard": share.guard, "link": share.link, "longest_open": share.longest_open,
-        "open": share.open, "scheduled": share.scheduled, "to": to
-    })
+    let members = link_members(alloc, problem, share)?;
+    Ok(Value::Object(members))
 }
 
 fn windows_value(alloc: Global, problem: &Problem, share: &LinkShare) -> Result<Value, AllocError>
     requires { share.now.link < length problem.now.network.links }
     ensures { IfOk result (λ value. view value ≡ windows_value problem.now share.now) }
 {
+    let mut members = link_members(alloc, problem, share)?;
+    put_number(&mut members, alloc, "windows", share.windows)?;
+    Ok(Value::Object(members))
+}
+
+fn link_members(
+    alloc: Global,
+    problem: &Problem,
+    share: &LinkShare,
+) -> Result<Map<String, Value>, AllocError>
+    requires { share.now.link < length problem.now.network.links }
+    ensures { IfOk result (λ members. object (members_view members.entries) ≡ link_value problem.now share.now) }
+{
     let (from, to) = names(problem, share.link);
-    let from = Value::String(String::from_str(alloc, from)?);
-    let to = Value::String(String::from_str(alloc, to)?);
-    json!(in alloc; {
-        "from": from, "guard": share.guard, "link": share.link, "longest_open": share.longest_open,
-        "open": share.open, "scheduled": share.scheduled, "to": to, "windows": share.windows
-    })
+    let mut members = Map::new(alloc);
+    put_text(&mut members, alloc, "from", from)?;
+    put_number(&mut members, alloc, "guard", share.guard)?;
+    put_number(&mut members, alloc, "link", share.link as u64)?;
+    put_number(&mut members, alloc, "longest_open", share.longest_open)?;
+    put_number(&mut members, alloc, "open", share.open)?;
+    put_number(&mut members, alloc, "scheduled", share.scheduled)?;
+    put_text(&mut members, alloc, "to", to)?;
+    Ok(members)
 }
 
 fn write_line(text: &mut String, value: &Value) -> Result<(), AllocError>

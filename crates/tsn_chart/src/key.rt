@@ -2,10 +2,9 @@
 ghost use Rattle.std.specs.Prelude.{◌≤◌, ◌<◌};
 ghost use Rattle.tsn_model.specs.Network.{stream_count};
 
+use crate::canvas::Canvas;
 use crate::picture::Sheet;
-use crate::words::{letters_in, write_colour, write_name};
-use std::alloc::AllocError;
-use std::fmt::Write;
+use crate::words::letters_in;
 
 // How many streams stand beside each other.
 const COLUMNS: usize = 2;
@@ -19,11 +18,14 @@ const LINE: u64 = 170;
 // How high letters are.
 const FONT: u64 = 110;
 
-// Where the numbers of a column end, counted from its left edge: octets, offset, arrival and latest instant.
-const ENDS: [u64; 4] = [3100, 4200, 5350, 6500];
+// Where the octets, the offset, the arrival and the latest instant end, counted from a column's left edge.
+const OCTETS: u64 = 3100;
 
-// What the numbers are.
-const HEADS: [&str; 4] = ["octets", "offset ns", "arrives ns", "latest ns"];
+const OFFSET: u64 = 4200;
+
+const ARRIVAL: u64 = 5350;
+
+const LATEST: u64 = 6500;
 
 // How many lines the table has below its head.
 fn lines_of(streams: usize) -> usize
@@ -43,86 +45,76 @@ pub fn key_height(streams: usize) -> u64
 }
 
 /// Writes the table of the streams with their colours.
-pub fn write_key(text: &mut String, sheet: Sheet<'_>) -> Result<(), AllocError> {
+pub fn write_key(canvas: &mut Canvas, sheet: &Sheet<'_>) {
     let streams = sheet.timing.streams();
     for column in 0..streams.min(COLUMNS) {
-        write_head(text, sheet, column)?;
+        write_head(canvas, sheet, column);
     }
     for stream in 0..streams {
-        write_stream(text, sheet, stream)?;
+        write_stream(canvas, sheet, stream);
     }
-    Ok(())
 }
 
 // Writes the head of a column.
-fn write_head(text: &mut String, sheet: Sheet<'_>, column: usize) -> Result<(), AllocError>
+fn write_head(canvas: &mut Canvas, sheet: &Sheet<'_>, column: usize)
     requires { column ≤ 128 }
 {
     let x = 200 + column as u64 * COLUMN;
     let y = sheet.scale.bottom() + 420;
-    let words = x + 200;
-    write!(
-        text,
-        "<text x=\"{words}\" y=\"{y}\" font-size=\"{FONT}\" font-weight=\"bold\">stream</text>\n"
-    )?;
-    for (end, head) in ENDS.iter().zip(HEADS) {
-        let right = x + *end;
-        write!(
-            text,
-            "<text x=\"{right}\" y=\"{y}\" font-size=\"{FONT}\" font-weight=\"bold\" text-anchor=\"end\">{head}</text>\n"
-        )?;
-    }
-    Ok(())
+    canvas.begin_text(x + 200, y);
+    canvas.number(" font-size=\"", FONT);
+    canvas.words("\" font-weight=\"bold\">stream</text>\n");
+    write_heading(canvas, x + OCTETS, y, "octets");
+    write_heading(canvas, x + OFFSET, y, "offset ns");
+    write_heading(canvas, x + ARRIVAL, y, "arrives ns");
+    write_heading(canvas, x + LATEST, y, "latest ns");
+}
+
+// Writes what the numbers are that end there.
+fn write_heading(canvas: &mut Canvas, right: u64, y: u64, words: &str) {
+    canvas.begin_text(right, y);
+    canvas.number(" font-size=\"", FONT);
+    canvas.words("\" font-weight=\"bold\" text-anchor=\"end\">");
+    canvas.words(words);
+    canvas.words("</text>\n");
 }
 
 // Writes a stream's colour, its name and its numbers.
-fn write_stream(text: &mut String, sheet: Sheet<'_>, stream: usize) -> Result<(), AllocError>
-    requires { stream < stream_count sheet.timing.now }
+fn write_stream(canvas: &mut Canvas, sheet: &Sheet<'_>, stream: usize)
+    requires { stream < stream_count sheet.now.timing.now }
 {
     // There are few streams, so the sums are small.
     let lines = lines_of(sheet.timing.streams());
     let x = 200 + (stream / lines) as u64 * COLUMN;
     let y = sheet.scale.bottom() + 480 + (stream % lines) as u64 * LINE;
-    write!(
-        text,
-        "<rect x=\"{x}\" y=\"{y}\" width=\"140\" height=\"130\" fill=\""
-    )?;
-    write_colour(text, stream)?;
-    let words = x + 200;
-    let line = y + 110;
-    write!(
-        text,
-        "\"/><text x=\"{words}\" y=\"{line}\" font-size=\"{FONT}\">"
-    )?;
-    write_name(text, sheet.name(stream), letters_in(2240, FONT))?;
-    text.push_str("</text>\n")?;
-    write_numbers(text, sheet, stream, x, line)
+    canvas.begin_rect(x, y, 140, 130);
+    canvas.colour(stream);
+    canvas.words("\"/>");
+    canvas.begin_text(x + 200, y + 110);
+    canvas.number(" font-size=\"", FONT);
+    canvas.words("\">");
+    canvas.name(sheet.name(stream), letters_in(2240, FONT));
+    canvas.words("</text>\n");
+    write_numbers(canvas, sheet, stream, x, y + 110);
 }
 
 // Writes the numbers of a stream.
-fn write_numbers(
-    text: &mut String,
-    sheet: Sheet<'_>,
-    stream: usize,
-    x: u64,
-    y: u64,
-) -> Result<(), AllocError>
-    requires stream { stream < stream_count sheet.timing.now }
+fn write_numbers(canvas: &mut Canvas, sheet: &Sheet<'_>, stream: usize, x: u64, y: u64)
+    requires stream { stream < stream_count sheet.now.timing.now }
     requires x { x ≤ 1_000_000 }
 {
     let offset = sheet.offsets[stream];
-    let numbers = [
-        sheet.timing.plain().octets(stream),
-        offset,
-        offset.saturating_add(sheet.timing.arrival(stream)),
-        sheet.timing.latest(stream),
-    ];
-    for (end, number) in ENDS.iter().zip(numbers) {
-        let right = x + *end;
-        write!(
-            text,
-            "<text x=\"{right}\" y=\"{y}\" font-size=\"{FONT}\" text-anchor=\"end\">{number}</text>\n"
-        )?;
-    }
-    Ok(())
+    let arrival = offset.saturating_add(sheet.timing.arrival(stream));
+    write_number(canvas, x + OCTETS, y, sheet.timing.plain().octets(stream));
+    write_number(canvas, x + OFFSET, y, offset);
+    write_number(canvas, x + ARRIVAL, y, arrival);
+    write_number(canvas, x + LATEST, y, sheet.timing.latest(stream));
+}
+
+// Writes a number that ends there.
+fn write_number(canvas: &mut Canvas, right: u64, y: u64, number: u64) {
+    canvas.begin_text(right, y);
+    canvas.number(" font-size=\"", FONT);
+    canvas.number("\" text-anchor=\"end\">", number);
+    canvas.words("</text>\n");
 }

@@ -1,6 +1,7 @@
 //! A schedule as a picture: SVG with a row for each directed link in use; and what each stream and each link gets by it, in nanoseconds.
 #![tactic(auto)]
 
+mod canvas;
 mod choice;
 mod csv;
 mod format;

@@ -32,7 +32,7 @@ impl MarkStyle {
 }
 
 /// How the bars of a stream's frames on a link are drawn.
-pub fn look_of(sheet: Sheet<'_>, stream: usize, link: usize) -> MarkStyle {
+pub fn look_of(sheet: &Sheet<'_>, stream: usize, link: usize) -> MarkStyle {
     if sheet.marked.is_empty() {
         return MarkStyle::Plain;
     }

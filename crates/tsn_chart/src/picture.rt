@@ -3,6 +3,7 @@ ghost use Rattle.std.specs.Prelude.{◌≡◌, ◌≤◌, ◌<◌, length, All};
 ghost use Rattle.tsn_model.specs.Network.{stream_count};
 ghost use Rattle.tsn_model.specs.Schedule.{IsValid};
 
+use crate::canvas::Canvas;
 use crate::choice::{LinkChoice, is_shown, rows_shown};
 use crate::frame::{write_axis, write_background, write_flowspan, write_head};
 use crate::key::{key_height, write_key};
@@ -129,33 +130,32 @@ pub fn marked_chart(
         rows,
         scale,
     };
-    Ok(draw(alloc, sheet)?)
+    Ok(draw(alloc, &sheet)?)
 }
 
 // The text of the picture.
-fn draw(alloc: Global, sheet: Sheet<'_>) -> Result<String, AllocError> {
+fn draw(alloc: Global, sheet: &Sheet<'_>) -> Result<String, AllocError> {
     let height = sheet.scale.bottom() + key_height(sheet.timing.streams());
-    let mut text = String::new(alloc);
-    write_head(&mut text, sheet, height)?;
-    write_background(&mut text, sheet)?;
-    write_rows(&mut text, sheet)?;
-    write_axis(&mut text, sheet.scale)?;
-    write_flowspan(&mut text, sheet)?;
-    write_key(&mut text, sheet)?;
-    text.push_str("</svg>\n")?;
-    Ok(text)
+    let mut canvas = Canvas::new(alloc);
+    write_head(&mut canvas, sheet, height);
+    write_background(&mut canvas, sheet);
+    write_rows(&mut canvas, sheet);
+    write_axis(&mut canvas, sheet.scale);
+    write_flowspan(&mut canvas, sheet);
+    write_key(&mut canvas, sheet);
+    canvas.words("</svg>\n");
+    canvas.finish()
 }
 
 // Writes the rows of the lists that are shown.
-fn write_rows(text: &mut String, sheet: Sheet<'_>) -> Result<(), AllocError> {
+fn write_rows(canvas: &mut Canvas, sheet: &Sheet<'_>) {
     let mut row: usize = 0;
     for number in 0..sheet.lists.len() {
         let link = sheet.lists[number].link();
         if is_shown(sheet.timing, sheet.lists, link, sheet.shown) {
             let y = sheet.scale.y(row);
-            write_row(text, sheet, Line { number, y })?;
+            write_row(canvas, sheet, Line { number, y });
             row = row.saturating_add(1);
         }
     }
-    Ok(())
 }

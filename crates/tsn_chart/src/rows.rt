@@ -2,14 +2,11 @@
 ghost use Rattle.std.specs.Prelude.{◌≤◌, ◌<◌, length};
 ghost use Rattle.tsn_model.specs.Network.{stream_count, hop_count};
 
+use crate::canvas::Canvas;
 use crate::mark::{MarkStyle, look_of};
 use crate::picture::Sheet;
 use crate::scale::{LEFT, PAGE};
-use crate::words::{
-    letters_in, letters_on, write_colour, write_microseconds, write_name, write_whole,
-};
-use std::alloc::AllocError;
-use std::fmt::Write;
+use crate::words::{letters_in, letters_on};
 use tsn_gate::{GateEntry, GateList};
 
 // A bar that is narrower has an outline, in tenths of a pixel.
@@ -46,98 +43,88 @@ struct Bar {
 }
 
 /// Writes a row: its label, its gates, and its frames.
-pub fn write_row(text: &mut String, sheet: Sheet<'_>, line: Line) -> Result<(), AllocError>
-    requires { line.number < length sheet.lists.now }
+pub fn write_row(canvas: &mut Canvas, sheet: &Sheet<'_>, line: Line)
+    requires { line.number < length sheet.now.lists.now }
 {
-    write_label(text, sheet, line)?;
-    write_gates(text, sheet, line)?;
+    write_label(canvas, sheet, line);
+    write_gates(canvas, sheet, line);
     for is_marked in [false, true] {
-        write_bars(text, sheet, line, is_marked)?;
+        write_bars(canvas, sheet, line, is_marked);
     }
-    let y = line.y;
-    write!(
-        text,
-        "<line x1=\"0\" y1=\"{y}\" x2=\"{PAGE}\" y2=\"{y}\" stroke=\"#cccccc\" stroke-width=\"5\"/>\n"
-    )
+    canvas.begin_line((0, line.y), (PAGE, line.y));
+    canvas.words("#cccccc\" stroke-width=\"5\"/>\n");
 }
 
 // Writes the bars of the frames that are marked, or of the others.
-fn write_bars(
-    text: &mut String,
-    sheet: Sheet<'_>,
-    line: Line,
-    is_marked: bool,
-) -> Result<(), AllocError>
-    requires { line.number < length sheet.lists.now }
+fn write_bars(canvas: &mut Canvas, sheet: &Sheet<'_>, line: Line, is_marked: bool)
+    requires { line.number < length sheet.now.lists.now }
 {
     let link = sheet.lists[line.number].link();
     for stream in 0..sheet.timing.streams() {
         let look = look_of(sheet, stream, link);
         if is_marked == (look == MarkStyle::Outlined) {
-            let framed = Framed { line, stream, look };
-            write_frames(text, sheet, framed)?;
+            write_frames(canvas, sheet, Framed { line, stream, look });
         }
     }
-    Ok(())
 }
 
 // Writes the names of the nodes that the row's link joins.
-fn write_label(text: &mut String, sheet: Sheet<'_>, line: Line) -> Result<(), AllocError>
-    requires { line.number < length sheet.lists.now }
+fn write_label(canvas: &mut Canvas, sheet: &Sheet<'_>, line: Line)
+    requires { line.number < length sheet.now.lists.now }
 {
     let link = sheet.lists[line.number].link();
     let (from, to) = sheet.lists[line.number].names(sheet.problem);
-    let x = LEFT - 100;
-    let y = line.y + sheet.scale.row_height() / 2 + sheet.scale.font() / 3;
+    canvas.begin_text(LEFT - 100, letters_line(sheet, line));
+    canvas.number(" text-anchor=\"end\">", link as u64);
+    write_cut_names(canvas, sheet, from, to);
+    canvas.number("<title>link ", link as u64);
+    canvas.words(": ");
+    canvas.whole(from);
+    canvas.words(" to ");
+    canvas.whole(to);
+    canvas.words("</title></text>\n");
+}
+
+// Writes the names of a row's label as far as there is room.
+fn write_cut_names(canvas: &mut Canvas, sheet: &Sheet<'_>, from: &str, to: &str) {
     let most = letters_in(LEFT - 200, sheet.scale.font()).saturating_sub(8) / 2;
-    write!(
-        text,
-        "<text x=\"{x}\" y=\"{y}\" text-anchor=\"end\">{link} "
-    )?;
-    write_name(text, from, most)?;
-    text.push_str(" &#8594; ")?;
-    write_name(text, to, most)?;
-    write!(text, "<title>link {link}: ")?;
-    write_whole(text, from)?;
-    text.push_str(" to ")?;
-    write_whole(text, to)?;
-    text.push_str("</title></text>\n")
+    canvas.words(" ");
+    canvas.name(from, most);
+    canvas.words(" &#8594; ");
+    canvas.name(to, most);
+}
+
+// Where letters stand in a row.
+fn letters_line(sheet: &Sheet<'_>, line: Line) -> u64 {
+    line.y + sheet.scale.row_height() / 2 + sheet.scale.font() / 3
 }
 
 // Writes the shades of a row's gates.
-fn write_gates(text: &mut String, sheet: Sheet<'_>, line: Line) -> Result<(), AllocError>
-    requires { line.number < length sheet.lists.now }
+fn write_gates(canvas: &mut Canvas, sheet: &Sheet<'_>, line: Line)
+    requires { line.number < length sheet.now.lists.now }
 {
     let mut start: u64 = 0;
     for entry in sheet.lists[line.number].entries() {
         if start >= sheet.scale.until() {
             break;
         }
-        write_gate(text, sheet, line, start, *entry)?;
+        write_gate(canvas, sheet, line, start, *entry);
         start = start.saturating_add(entry.interval);
     }
-    Ok(())
 }
 
 // Writes the shade of an entry that begins at an instant.
-fn write_gate(
-    text: &mut String,
-    sheet: Sheet<'_>,
-    line: Line,
-    start: u64,
-    entry: GateEntry,
-) -> Result<(), AllocError> {
-    let octet = entry.octet;
+fn write_gate(canvas: &mut Canvas, sheet: &Sheet<'_>, line: Line, start: u64, entry: GateEntry) {
     let end = start.saturating_add(entry.interval);
     let x = sheet.scale.x(start);
     let wide = sheet.scale.x(end).saturating_sub(x);
-    let y = line.y;
-    let high = sheet.scale.row_height();
-    let shade = shade_of(octet);
-    write!(
-        text,
-        "<rect x=\"{x}\" y=\"{y}\" width=\"{wide}\" height=\"{high}\" fill=\"{shade}\"><title>gates {octet:02X}: {start} to {end} ns</title></rect>\n"
-    )
+    canvas.begin_rect(x, line.y, wide, sheet.scale.row_height());
+    canvas.words(shade_of(entry.octet));
+    canvas.words("\"><title>gates ");
+    canvas.octet(entry.octet);
+    canvas.number(": ", start);
+    canvas.number(" to ", end);
+    canvas.words(" ns</title></rect>\n");
 }
 
 // How gates are shaded.
@@ -151,94 +138,80 @@ fn shade_of(octet: u8) -> &'static str {
 }
 
 // Writes the bars of a stream's frames on a row's link.
-fn write_frames(text: &mut String, sheet: Sheet<'_>, framed: Framed) -> Result<(), AllocError>
-    requires line { framed.line.number < length sheet.lists.now }
-    requires stream { framed.stream < stream_count sheet.timing.now }
+fn write_frames(canvas: &mut Canvas, sheet: &Sheet<'_>, framed: Framed)
+    requires line { framed.line.number < length sheet.now.lists.now }
+    requires stream { framed.stream < stream_count sheet.now.timing.now }
 {
     let link = sheet.lists[framed.line.number].link();
     for hop in 0..sheet.timing.hops(framed.stream) {
         if sheet.timing.route_link(framed.stream, hop) == link {
             for shift in sheet.timing.shifts(framed.stream) {
-                write_bar(text, sheet, framed, hop, *shift)?;
+                write_bar(canvas, sheet, framed, hop, *shift);
             }
         }
     }
-    Ok(())
 }
 
 // Writes the bar of a stream's frame of a shift on a hop, unless it is past the picture.
-fn write_bar(
-    text: &mut String,
-    sheet: Sheet<'_>,
-    framed: Framed,
-    hop: usize,
-    shift: u64,
-) -> Result<(), AllocError>
-    requires stream { framed.stream < stream_count sheet.timing.now }
-    requires hop { hop < hop_count sheet.timing.now framed.stream }
+fn write_bar(canvas: &mut Canvas, sheet: &Sheet<'_>, framed: Framed, hop: usize, shift: u64)
+    requires stream { framed.stream < stream_count sheet.now.timing.now }
+    requires hop { hop < hop_count sheet.now.timing.now framed.stream }
 {
     let stream = framed.stream;
     let begin = sheet.offsets[stream].saturating_add(shift);
     let start = begin.saturating_add(sheet.timing.start(stream, hop));
     let end = start.saturating_add(sheet.timing.occupancy(stream, hop));
     if start >= sheet.scale.until() {
-        return Ok(());
+        return;
     }
     let x = sheet.scale.x(start);
     let wide = sheet.scale.x(end).saturating_sub(x).max(NARROWEST);
-    write!(text, "<g><title>")?;
-    write_whole(text, sheet.name(stream))?;
-    write!(text, ": {start} to {end} ns with the gap")?;
+    canvas.words("<g><title>");
+    canvas.whole(sheet.name(stream));
+    canvas.number(": ", start);
+    canvas.number(" to ", end);
+    canvas.words(" ns with the gap");
     let bar = Bar { framed, x, wide };
-    write_bar_shape(text, sheet, bar)?;
-    write_bar_name(text, sheet, bar)?;
-    text.push_str("</g>\n")
+    write_bar_shape(canvas, sheet, bar);
+    write_bar_name(canvas, sheet, bar);
+    canvas.words("</g>\n");
 }
 
 // Writes the rest of a bar's title, and its shape.
-fn write_bar_shape(text: &mut String, sheet: Sheet<'_>, bar: Bar) -> Result<(), AllocError> {
+fn write_bar_shape(canvas: &mut Canvas, sheet: &Sheet<'_>, bar: Bar) {
     let Bar { framed, x, wide } = bar;
-    let y = framed.line.y + 20;
     let high = sheet.scale.row_height().saturating_sub(40);
-    text.push_str(framed.look.title())?;
-    write!(
-        text,
-        "</title><rect x=\"{x}\" y=\"{y}\" width=\"{wide}\" height=\"{high}\" fill=\""
-    )?;
-    write_colour(text, framed.stream)?;
+    canvas.words(framed.look.title());
+    canvas.words("</title>");
+    canvas.begin_rect(x, framed.line.y + 20, wide, high);
+    canvas.colour(framed.stream);
+    // A narrow bar is seen by an outline in the stream's colour.
     if wide < NARROW && framed.look != MarkStyle::Outlined {
-        write_outline(text, framed.stream)?;
+        canvas.words("\" stroke-width=\"6\" stroke=\"");
+        canvas.colour(framed.stream);
     }
-    text.push_str(framed.look.shade())
-}
-
-// Writes an outline in a stream's colour, by which a narrow bar is seen.
-fn write_outline(text: &mut String, stream: usize) -> Result<(), AllocError> {
-    text.push_str("\" stroke-width=\"6\" stroke=\"")?;
-    write_colour(text, stream)
+    canvas.words(framed.look.shade());
 }
 
 // Writes a stream's name into its bar, where there is room for some of it.
-fn write_bar_name(text: &mut String, sheet: Sheet<'_>, bar: Bar) -> Result<(), AllocError>
-    requires stream { bar.framed.stream < stream_count sheet.timing.now }
+fn write_bar_name(canvas: &mut Canvas, sheet: &Sheet<'_>, bar: Bar)
+    requires stream { bar.framed.stream < stream_count sheet.now.timing.now }
     requires x { bar.x ≤ 14_000 }
     requires wide { bar.wide ≤ 14_000 }
 {
     let room = letters_in(bar.wide.saturating_sub(40), sheet.scale.font());
     if room < 3 {
-        return Ok(());
+        return;
     }
-    let middle = bar.x + bar.wide / 2;
     let stream = bar.framed.stream;
     let letters = match bar.framed.look {
         MarkStyle::Pale => "#000000",
         MarkStyle::Plain | MarkStyle::Outlined => letters_on(stream),
     };
-    let y = bar.framed.line.y + sheet.scale.row_height() / 2 + sheet.scale.font() / 3;
-    write!(
-        text,
-        "<text x=\"{middle}\" y=\"{y}\" fill=\"{letters}\" text-anchor=\"middle\">"
-    )?;
-    write_name(text, sheet.name(stream), room)?;
-    text.push_str("</text>")
+    canvas.begin_text(bar.x + bar.wide / 2, letters_line(sheet, bar.framed.line));
+    canvas.words(" fill=\"");
+    canvas.words(letters);
+    canvas.words("\" text-anchor=\"middle\">");
+    canvas.name(sheet.name(stream), room);
+    canvas.words("</text>");
 }

@@ -1,6 +1,8 @@
 //! The lines of a table.
-ghost use Rattle.std.specs.Prelude.{◌≡◌, ◌++◌, OnOk, string_bytes};
-ghost use Rattle.tsn_chart.specs.Table.{link_end, link_line, stream_end, stream_line};
+ghost use Rattle.std.specs.Prelude.{◌≡◌, ◌++◌, ◌<◌, OnOk, length, string_bytes};
+ghost use Rattle.tsn_gate.specs.Table.{name_at};
+ghost use Rattle.tsn_model.specs.Network.{link_at};
+ghost use Rattle.tsn_chart.specs.Table.{link_end, link_head, link_line, stream_end, stream_line};
 
 use crate::format::Format;
 use crate::frames::sends_several;
@@ -31,13 +33,9 @@ impl Format for Table {
         end_stream(text, problem, share)
     }
 
-    #[tactic(auto, unfolding(crate::specs::Table::link_head, crate::specs::Table::link_numbers))]
+    #[tactic(auto, unfolding(crate::specs::Table::link_numbers))]
     fn link(text: &mut String, problem: &Problem, share: &LinkShare) -> Result<(), AllocError> {
-        let (from, to) = names(problem, share.link);
-        write!(text, "link {} ", share.link)?;
-        text.push_str(from)?;
-        text.push_str(" ")?;
-        text.push_str(to)?;
+        begin_link(text, problem, share.link)?;
         write!(
             text,
             " scheduled {} guard {} open {} longest_open {}",
@@ -45,6 +43,16 @@ impl Format for Table {
         )?;
         end_link(text, problem, share)
     }
+}
+
+// Begins a link's line: with its number, and the names of the nodes that it joins.
+#[tactic(auto, unfolding(crate::specs::Table::link_head))]
+fn begin_link(text: &mut String, problem: &Problem, link: usize) -> Result<(), AllocError>
+    requires { link < length problem.now.network.links }
+    ensures { OnOk result (string_bytes text.new ≡ string_bytes text.old ++ link_head link (name_at problem.now (link_at problem.now.network link).from) (name_at problem.now (link_at problem.now.network link).to)) }
+{
+    let (from, to) = names(problem, link);
+    write!(text, "link {link} {from} {to}")
 }
 
 // Ends a stream's line: with its period and its frames in it, where some stream sends several a cycle.

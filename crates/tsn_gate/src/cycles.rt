@@ -5,6 +5,7 @@ ghost use Rattle.tsn_model.specs.Bridge.{BridgeRun, IsBridgeRun, IsFed, StartsOn
 ghost use Rattle.tsn_model.specs.Kept.{KeepsWantedGates};
 ghost use Rattle.tsn_gate.specs.Feeding.{background_of};
 ghost use Rattle.tsn_gate.specs.Faults.{NamesLinks, KeepsLimits, HasReplayFault};
+ghost use Rattle.tsn_gate.specs.Progress.{IsSetting, AreStarts};
 ghost use Rattle.tsn_gate.specs.Rows.{AreRows};
 ghost use Rattle.tsn_gate.specs.Records.{IsReplayed, AreRowsOfRun};
 
@@ -15,10 +16,11 @@ use crate::list::GateList;
 use crate::openings::Openings;
 use crate::replay_fault::ReplayFault;
 use crate::rows::rows_of;
+use crate::starts::Starts;
 use crate::table::ReplayTable;
 use crate::trace::{Row, Trace};
 use std::alloc::{AllocError, Global};
-use tsn_timing::{Problem, Valid};
+use tsn_timing::{Problem, Timing, Valid};
 
 /// Replays so many cycles, 1 to 16, of a valid schedule by gate control lists, from instant 0 on. The bridges' clocks are
 /// without error.
@@ -117,19 +119,36 @@ fn replayed(
     // The network is within its limits, and each stream has a name.
     let _limits = problem.cycle();
     let timing = problem.timing(alloc)?;
+    let offsets = valid.offsets();
+    let starts = starts_by(alloc, &timing, offsets, lists, cycles, background, keeps)?;
+    let _names = problem.streams();
+    let rows = rows_of(alloc, &timing, offsets, cycles, &starts)?;
+    Ok(Trace::new(starts, ReplayTable::new(rows)))
+}
+
+// What starts in the cycles.
+fn starts_by(
+    alloc: Global,
+    timing: &Timing,
+    offsets: &[u64],
+    lists: &[GateList],
+    cycles: usize,
+    background: &Background,
+    keeps: bool,
+) -> Result<Starts, AllocError>
+    requires { IsSetting (record { network = timing.now; offsets = offsets.now; gates = lists.now; cycles = cycles; background = background_of background.now; keeps = keeps }) }
+    ensures { IfOk result (AreStarts (record { network = timing.now; offsets = offsets.now; gates = lists.now; cycles = cycles; background = background_of background.now; keeps = keeps })) }
+{
     let gates = openings_of(alloc, lists)?;
     let replay = Replay {
         network: timing.plain(),
-        offsets: valid.offsets(),
+        offsets,
         gates: &gates,
         cycles,
         background,
         keeps,
     };
-    let starts = replay.run(alloc)?;
-    let _names = problem.streams();
-    let rows = rows_of(alloc, &timing, valid.offsets(), cycles, &starts)?;
-    Ok(Trace::new(starts, ReplayTable::new(rows)))
+    replay.run(alloc)
 }
 
 fn openings_of(alloc: Global, lists: &[GateList]) -> Result<Vec<Openings>, AllocError>

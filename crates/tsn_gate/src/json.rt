@@ -1,12 +1,12 @@
 //! Gate control lists as values of JSON.
-ghost use Rattle.std.specs.Prelude.{◌≡◌, ◌<◌, IfOk, false, length, map, string_bytes};
-ghost use Rattle.serde_json.specs.Data.{array};
-ghost use Rattle.serde_json.specs.View.{items_of, view};
+ghost use Rattle.std.specs.Prelude.{◌≡◌, ◌<◌, IfOk, OnOk, codes, false, length, map, string_bytes};
+ghost use Rattle.serde_json.specs.Data.{array, string, put as with_member};
+ghost use Rattle.serde_json.specs.View.{items_of, members_view, view};
 ghost use Rattle.serde_json.specs.Written.{has_float};
-ghost use Rattle.tsn_gate.specs.Json.{entry_value, list_value, line_text, json_text};
+ghost use Rattle.tsn_gate.specs.Json.{entry_value, list_value, line_text, json_text, number_value};
 
 use crate::list::{GateList, names};
-use serde_json::{Value, json};
+use serde_json::{Map, Value, json, put};
 use std::alloc::{AllocError, Global};
 use tsn_model::{GateEntry, NoMemory};
 use tsn_timing::Problem;
@@ -30,12 +30,50 @@ fn list_value(alloc: Global, problem: &Problem, list: &GateList) -> Result<Value
     ensures { IfOk result (λ value. view value ≡ list_value problem.now list.now) }
 {
     let (from, to) = names(problem, list.link());
-    let from = Value::String(String::from_str(alloc, from)?);
-    let to = Value::String(String::from_str(alloc, to)?);
-    let entries = entry_values(alloc, list.entries())?;
-    let cycle = list.cycle();
-    let link = list.link();
-    json!(in alloc; {"cycle": cycle, "entries": entries, "from": from, "link": link, "to": to})
+    let mut members = Map::new(alloc);
+    put_number(&mut members, alloc, "cycle", list.cycle())?;
+    put_entries(&mut members, alloc, list.entries())?;
+    put_text(&mut members, alloc, "from", from)?;
+    put_number(&mut members, alloc, "link", list.link() as u64)?;
+    put_text(&mut members, alloc, "to", to)?;
+    Ok(Value::Object(members))
+}
+
+/// Adds a number to the members of an object.
+pub fn put_number(
+    members: &mut Map<String, Value>,
+    alloc: Global,
+    key: &str,
+    number: u64,
+) -> Result<(), AllocError>
+    ensures { OnOk result (members_view members.new.entries ≡ with_member key.now (number_value number) (members_view members.old.entries)) }
+{
+    put(members, alloc, key, Value::from(number))
+}
+
+/// Adds a text to the members of an object.
+pub fn put_text(
+    members: &mut Map<String, Value>,
+    alloc: Global,
+    key: &str,
+    text: &str,
+) -> Result<(), AllocError>
+    ensures { OnOk result (members_view members.new.entries ≡ with_member key.now (string text.now) (members_view members.old.entries)) }
+{
+    let value = Value::try_from_str(alloc, text)?;
+    put(members, alloc, key, value)
+}
+
+// Adds the entries of a list to the members of an object.
+fn put_entries(
+    members: &mut Map<String, Value>,
+    alloc: Global,
+    entries: &[GateEntry],
+) -> Result<(), AllocError>
+    ensures { OnOk result (members_view members.new.entries ≡ with_member (codes "entries") (array (items_of (map entry_value entries.now))) (members_view members.old.entries)) }
+{
+    let value = entry_values(alloc, entries)?;
+    put(members, alloc, "entries", value)
 }
 
 fn entry_values(alloc: Global, entries: &[GateEntry]) -> Result<Value, AllocError>

@@ -14,17 +14,14 @@ use Rattle.tsn_gate.proofs.Records.{started_kept, replayed_from}
 use Rattle.tsn_gate.proofs.ReplayTables.{rows_named}
 use Rattle.tsn_gate.proofs.cycles.replayed.Goals as goal
 
-pub run-requires : goal.run-requires
-run-requires c =
-    let network : c.args.problem.now.network ≡ c.plain.result.now = sym (c.plain.ensures ∙ c.in_ok-timing.ensures) in
+pub starts_by-requires : goal.starts_by-requires
+starts_by-requires c =
     let formed = subst IsWellFormed c.deref-2.ensures c.cycle-limits.ensures.well_formed in
-    let offsets = sym c.offsets.ensures in
-    let gates = sym (c.deref-3.ensures.value ∙ c.in_ok-gates.ensures) in
     let background = background_of c.args.background.now in
     let judged = subst (λ n. MatchOption c.first_fault.result (NamesLinks n c.args.lists.now background × KeepsLimits n c.args.lists.now c.args.cycles background) (HasReplayFault n c.args.lists.now c.args.cycles background)) c.deref.ensures c.first_fault.ensures in
     let right = no_fault c.args.problem.now.network c.args.lists.now c.args.cycles background c.first_fault.result c.in_default.not-Some judged in
     let setting = setting_right (record { network = c.args.problem.now.network; offsets = c.args.valid.now; gates = c.args.lists.now; cycles = c.args.cycles; background = background; keeps = c.args.keeps }) formed c.requires.valid c.requires.few right.0 right.1 in
-    subst IsSetting (λ i. record { network = network i; offsets = offsets i; gates = gates i; cycles = c.args.cycles; background = background; keeps = c.args.keeps }) setting
+    subst IsSetting (λ i. record { network = sym c.in_ok-timing.ensures i; offsets = sym c.offsets-offsets.ensures i; gates = c.args.lists.now; cycles = c.args.cycles; background = background; keeps = c.args.keeps }) setting
 
 pub rows_of-requires-clause-once : goal.rows_of-requires-clause-once
 rows_of-requires-clause-once c passage s t one other =
@@ -34,19 +31,17 @@ rows_of-requires-clause-once c passage s t one other =
 pub rows_of-requires-clause-passages : goal.rows_of-requires-clause-passages
 rows_of-requires-clause-passages c =
     let are = c.in_ok-starts.ensures in
-    subst (λ n. All (λ (begun : ScheduledStart). IsPassage n c.args.cycles begun.passage) c.in_ok-starts.starts.scheduled) c.plain.ensures
-    (subst (All (λ (begun : ScheduledStart). IsPassage c.plain.result.now c.args.cycles begun.passage)) (sym are.records.scheduled) are.run.passages)
+    subst (All (λ (begun : ScheduledStart). IsPassage c.in_ok-timing.timing c.args.cycles begun.passage)) (sym are.records.scheduled) are.run.passages
 
 pub returns-clause-replayed : goal.returns-clause-replayed
 returns-clause-replayed c =
-    let network = c.plain.ensures ∙ c.in_ok-timing.ensures in
-    let offsets = c.offsets.ensures in
-    let gates = c.deref-3.ensures.value ∙ c.in_ok-gates.ensures in
+    let network = c.in_ok-timing.ensures in
+    let offsets = c.offsets-offsets.ensures in
     let background = background_of c.args.background.now in
     let starts = subst (λ setting. AreStarts setting c.in_ok-starts.starts)
-    (λ i. record { network = network i; offsets = offsets i; gates = gates i; cycles = c.args.cycles; background = background; keeps = c.args.keeps }) c.in_ok-starts.ensures in
-    let timed = subst (λ n. AreRows n c.offsets-2.result.now c.args.cycles c.in_ok-starts.starts c.in_ok-rows.rows.items) c.in_ok-timing.ensures c.in_ok-rows.ensures in
-    let rows = subst (λ os. AreRows c.args.problem.now.network os c.args.cycles c.in_ok-starts.starts c.in_ok-rows.rows.items) c.offsets-2.ensures timed in
+    (λ i. record { network = network i; offsets = offsets i; gates = c.args.lists.now; cycles = c.args.cycles; background = background; keeps = c.args.keeps }) c.in_ok-starts.ensures in
+    let timed = subst (λ n. AreRows n c.offsets-offsets.result.now c.args.cycles c.in_ok-starts.starts c.in_ok-rows.rows.items) c.in_ok-timing.ensures c.in_ok-rows.ensures in
+    let rows = subst (λ os. AreRows c.args.problem.now.network os c.args.cycles c.in_ok-starts.starts c.in_ok-rows.rows.items) c.offsets-offsets.ensures timed in
     let trace : c.new-2.result ≡ record { run = c.in_ok-starts.starts; rows = c.in_ok-rows.rows.items } = c.new-2.ensures ∙ ap (λ table. record { run = c.in_ok-starts.starts; rows = table }) c.new.ensures in
     subst (IsReplayed c.args.keeps c.args.problem.now.network c.args.valid.now c.args.lists.now c.args.cycles background) (sym trace)
     (replayed_from (record { network = c.args.problem.now.network; offsets = c.args.valid.now; gates = c.args.lists.now; cycles = c.args.cycles; background = background; keeps = c.args.keeps }) c.in_ok-starts.starts c.in_ok-rows.rows.items starts rows)
