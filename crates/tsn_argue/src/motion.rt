@@ -18,8 +18,8 @@ use crate::link::{judge_choice, judge_frames, load_all, load_with, visit_of};
 use crate::news::{News, turned};
 use crate::uses::{Reader, Use};
 use crate::view::View;
-use tsn_check::Wrong;
 use tsn_cert::{Clause, Fact, Move, Order, Placing};
+use tsn_check::Wrong;
 use tsn_model::{Arc, Decision, Frame};
 use tsn_timing::{arc_of, is_conflict};
 

@@ -16,9 +16,9 @@ use crate::listener::Listener;
 use crate::motion::{Shown, judge};
 use crate::news::News;
 use crate::view::View;
-use tsn_check::{ArgumentFault, Open, StepFault, Wrong};
 use std::alloc::{AllocError, Global};
 use tsn_cert::{Clause, Fact, Move, Step};
+use tsn_check::{ArgumentFault, Open, StepFault, Wrong};
 use tsn_model::NoMemory;
 use tsn_timing::{Timing, is_conflict};
 

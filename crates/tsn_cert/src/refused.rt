@@ -2,9 +2,9 @@
 ghost use Rattle.std.specs.Prelude.{◌≡◌};
 ghost use Rattle.tsn_cert.specs.Told.{key_name, code_of};
 
+use crate::{FileFault, Format};
 use serde_json::Error;
 use std::alloc::{AllocError, AllocFailed};
-use crate::{FileFault, Format};
 use tsn_model::NoMemory;
 
 /// A key of a plan or of a certificate.

@@ -2,10 +2,10 @@
 ghost use Rattle.std.specs.Prelude.{◌≡◌};
 ghost use Rattle.tsn_check.specs.Numbers.{step_code, argument_code};
 
-use crate::wrong::Wrong;
-use tsn_cert::Goal;
 use crate::fault::CheckFault;
 use crate::why::PlanFault;
+use crate::wrong::Wrong;
+use tsn_cert::Goal;
 use tsn_model::NoMemory;
 
 /// What is wrong with a step.

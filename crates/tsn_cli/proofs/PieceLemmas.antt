@@ -1,5 +1,5 @@
 -- How the pieces of a text that is written make the whole.
-use Rattle.std.proofs.Common.{◌≡◌, ℕ, List, [], ◌∷◌, ◌++◌, Bool, true, false, take, drop, length, append-nil, Option, Some, None, Result, OnErr, rules, refl, sym, ap, ◌∙◌, append_assoc, subst}
+use Rattle.std.proofs.Common.{◌≡◌, ℕ, List, [], ◌∷◌, ◌++◌, Bool, true, false, take, drop, length, append-nil, Option, Some, None, Result, Ok, Err, OnErr, rules, refl, sym, ap, ◌∙◌, append_assoc, subst}
 use Rattle.std.proofs.Math.Seq.{take-append_seam}
 use Rattle.std.proofs.lemmas.List.{take-append-drop}
 use Rattle.std.proofs.lemmas.List.Elements.{All-nil, All-cons}
@@ -11,7 +11,7 @@ use Rattle.tsn_cert.specs.Cert.{cert_text}
 use Rattle.tsn_cert.specs.Laws.{IsInGrammar, AreInGrammar}
 use Rattle.tsn_cert.specs.Text.{head_text, node_text, nodes_text, tail_text}
 use Rattle.tsn_codec.proofs.CertParts.{cert_text_parts}
-use Rattle.tsn_cli.specs.Pieces.{IsParted}
+use Rattle.tsn_cli.specs.Pieces.{IsParted, IsPut}
 use Rattle.tsn_outcome.proofs.RunLemmas.{Appends-nothing}
 
 -- one piece behind another
@@ -52,6 +52,12 @@ module _ (a b : Option (List ℕ)) (rest whole : List ℕ) where
   pub parted_on : (c : Option (List ℕ)) (left : List ℕ) → IsParted a b rest whole → IsParted b c left rest → IsParted a c left whole
   parted_on c left (p, taken, first) (q, then, second) =
       (p ++ q, Appends-both a b c p q taken then, append_assoc p q left ∙ ap (λ l. p ++ l) second ∙ first)
+
+-- what was left was put
+pub put_on : {A : Type 0} (left : A → List ℕ) (a b c : Option (List ℕ)) (result : Result A ReadFault) (rest whole : List ℕ) → IsParted a b rest whole
+    → IsPut b c rest left result → IsPut a c whole left result
+put_on left a b c (Ok value) rest whole parted put = (parted_on a b rest whole c (left value) parted put.0, tt)
+put_on left a b c (Err fault) rest whole parted put = (tt, (put.1.0, parted_on a b rest whole c put.1.0 parted put.1.1))
 
 -- a node's text was added to what is left, and a part of that was taken
 pub parted_node : (a b c : Option (List ℕ)) (text rest whole : List ℕ) (later : Bool) (node : Node) (nodes left : List Node) → nodes ≡ node ∷ left

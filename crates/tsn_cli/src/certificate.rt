@@ -3,7 +3,7 @@ ghost use Rattle.std.specs.Prelude.{◌<◌, ◌++◌, ◌-◌, ◌^◌, ◌≡�
 ghost use Rattle.tsn_cert.specs.Cert.{cert_text};
 ghost use Rattle.tsn_cert.specs.Laws.{IsInGrammar, AreInGrammar};
 ghost use Rattle.tsn_cert.specs.Node.{tree_node};
-ghost use Rattle.tsn_cert.specs.Text.{node_text, nodes_text};
+ghost use Rattle.tsn_cert.specs.Text.{head_text, node_text, nodes_text, tail_text};
 ghost use Rattle.tsn_outcome.specs.Run.{taken_in, failed_in};
 ghost use Rattle.tsn_cert.specs.Argument.{argument_text};
 ghost use Rattle.tsn_cli.specs.RunOutput.{HasFormIfAny, written_bytes, written_in};
@@ -67,9 +67,43 @@ fn write_cert<C: Sink>(alloc: Global, sink: &mut C, cert: Spelling) -> Result<()
     ensures form { OnOk result (AreInGrammar cert.nodes) }
 {
     let mut cert = cert;
+    let target = cert.target();
+    let begun = write_beginning(alloc, sink, &mut cert);
+    drop(cert);
+    match begun {
+        Ok(text) => write_end(alloc, sink, text, target),
+        Err(fault) => Err(fault),
+    }
+}
+
+// Writes what stands before the end of a tree. The answer is what isn't written yet.
+fn write_beginning<C: Sink>(
+    alloc: Global,
+    sink: &mut C,
+    cert: &mut Spelling,
+) -> Result<String, ReadFault>
+    requires { C.failed sink.old < 2 ^ 64 - 1 }
+    ensures put { IsPut (C.taken sink.old) (C.taken sink.new) (head_text cert.old.format ++ nodes_text false cert.old.nodes) string_bytes result }
+    ensures failures { IsCounted (C.failed sink.old) (C.failed sink.new) result }
+    ensures form { OnOk result (AreInGrammar cert.old.nodes) }
+{
     let head = head_to_json(alloc, cert.format())?;
-    let mut text = write_nodes(alloc, sink, &mut cert, head)?;
-    let tail = tail_to_json(alloc, cert.target())?;
+    write_nodes(alloc, sink, cert, head)
+}
+
+// Writes a text, and the end of a tree behind it.
+fn write_end<C: Sink>(
+    alloc: Global,
+    sink: &mut C,
+    text: String,
+    target: u64,
+) -> Result<(), ReadFault>
+    requires { C.failed sink.old < 2 ^ 64 - 1 }
+    ensures put { IsPut (C.taken sink.old) (C.taken sink.new) (string_bytes text ++ tail_text target) (λ _. []) result }
+    ensures failures { IsCounted (C.failed sink.old) (C.failed sink.new) result }
+{
+    let mut text = text;
+    let tail = tail_to_json(alloc, target)?;
     text.push_str(tail.as_str())?;
     write_whole(sink, text.as_bytes())?;
     Ok(())

@@ -7,9 +7,9 @@ use std::alloc::Global;
 use tsn_cert::Plan;
 use tsn_codec::plan_or_refuse;
 use tsn_device::device::{ReadFault, Source, read_all};
+use tsn_net::read_or_refuse;
 use tsn_outcome::run::MAX_FILE;
 use tsn_outcome::{Answer, FileKind, file_refusal, network_line, refusal};
-use tsn_net::read_or_refuse;
 use tsn_timing::Problem;
 
 /// A network, or the line on why its file is refused.

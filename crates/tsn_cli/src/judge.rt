@@ -4,10 +4,10 @@ ghost use Rattle.tsn_outcome.specs.Run.{source_over};
 ghost use Rattle.tsn_outcome.specs.Outcome.{ComesOver, EndsAs, outcome_of, output_of};
 ghost use Rattle.tsn_cli.specs.Unmade.{JudgeAnswers};
 
+use crate::inputs::{NetworkRead, read_network};
 use std::alloc::Global;
 use tsn_device::device::{ReadFault, Source};
 use tsn_outcome::{Answer, Outcome};
-use crate::inputs::{NetworkRead, read_network};
 
 /// Reads a network file, and answers why it is refused, or that it is not.
 pub fn judge_answer<S: Source>(alloc: Global, source: &mut S) -> Result<Answer, ReadFault>

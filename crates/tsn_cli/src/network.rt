@@ -5,11 +5,11 @@ ghost use Rattle.tsn_outcome.specs.Run.{Output, source_over};
 ghost use Rattle.tsn_outcome.specs.Outcome.{ComesOver};
 ghost use Rattle.tsn_cli.specs.Shown.{IsSaid, NetworkAnswers, shown_output};
 
+use crate::inputs::{NetworkRead, read_network};
 use crate::showing::Shown;
 use std::alloc::Global;
 use tsn_device::device::{ReadFault, Source};
 use tsn_model::NoMemory;
-use crate::inputs::{NetworkRead, read_network};
 use tsn_timing::Problem;
 
 /// What a command makes of a network, where its file is taken.

@@ -12,8 +12,8 @@ use std::mem;
 use tsn_answer::{Found, Known, plan_of};
 use tsn_cert::{Offsets, Plan};
 use tsn_codec::plan_to_json;
-use tsn_outcome::{Answer, Outcome, Stop};
 use tsn_model::NoMemory;
+use tsn_outcome::{Answer, Outcome, Stop};
 use tsn_timing::Solved;
 
 /// What is printed of what a search found, with its certificate, where that is wanted.

@@ -12,6 +12,7 @@ ghost use Rattle.tsn_chart.specs.declared.link.LinkShare.{LinkShare};
 ghost use Rattle.tsn_chart.specs.declared.stream.StreamShare.{StreamShare};
 ghost use Rattle.tsn_cli.specs.Tables.{CanShow, GatesAnswers, RejectsPlan, ReplayAnswers, ShowsLists, ShowsPicture, ShowsPlan, ShowsReplay, ShowsShares, ShowsTable, TableAnswers, rows_text, shares_text};
 
+use crate::inputs::{NetworkRead, PlanRead, read_network, read_plan};
 use crate::showing::{Shown, show};
 use crate::table::{GatesOptions, ReplayOptions, Table};
 use crate::untaken::untaken;
@@ -22,7 +23,6 @@ use tsn_check::{PlanFault, judge_plan};
 use tsn_device::device::{ReadFault, Sink, Source};
 use tsn_gate::{Background, ReplayFault, ReplayTable, gate_lists, lists_by, replay_rows, text_in};
 use tsn_model::NoMemory;
-use crate::inputs::{NetworkRead, PlanRead, read_network, read_plan};
 use tsn_outcome::{Claim, line_on_plan, rejection};
 use tsn_timing::{Problem, Valid};
 use tsn_words::{ReplayFormat, StreamsFormat};

@@ -12,9 +12,9 @@ use std::io::Eprint;
 use std::sync::Wait;
 use std::thread::Threads;
 use std::time::Clock;
-use tsn_cli::{Offsets, Table, VerdictLine, prove};
 use tsn_cli::options::{gates_options, replay_options};
 use tsn_cli::shown::{certified, network, table};
+use tsn_cli::{Offsets, Table, VerdictLine, prove};
 use tsn_outcome::{Given, Made, Ran};
 use tsn_words::{CheckWords, ExplainWords, Words};
 

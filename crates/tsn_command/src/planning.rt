@@ -14,13 +14,13 @@ use std::sync::Wait;
 use std::thread::Threads;
 use std::time::Clock;
 use tsn_answer::Effort;
+use tsn_cli::{
+    Files, Unwritten, end_progress, file_line, plan_files, progress_of, stop_or, unwritable,
+};
 use tsn_outcome::json::tell_answer;
 use tsn_outcome::reason::{fault_of, source_line, write_line};
 use tsn_outcome::told::Told;
 use tsn_outcome::{Given, Made, Ran, outcome_of};
-use tsn_cli::{
-    Files, Unwritten, end_progress, file_line, plan_files, progress_of, stop_or, unwritable,
-};
 use tsn_words::PlanWords;
 
 /// Plans a network; the network `-` is standard input. Where the words ask for it, how far the plan has got is told at once, on a

@@ -5,10 +5,10 @@ ghost use Rattle.tsn_outcome.specs.Outcome.{IsOutcome, output_of};
 
 use crate::why::Reason;
 use crate::why::file_words::file_line;
+use crate::{Answer, FileKind, Outcome};
 use std::alloc::Global;
 use tsn_cert::{FileFault, Refused};
 use tsn_check::CheckFault;
-use crate::{Answer, FileKind, Outcome};
 use tsn_model::NoMemory;
 use tsn_net::{Code, NetFault};
 use tsn_text::line_of;

@@ -45,7 +45,8 @@ returns-in_err-target-2-clause-argument c =
     let three : c.in_ok-whole_number_at.field-0 ≡ argument_format = grind arith in
     let aim = named_ok WrongShape (goal_of (view c.in_ok-goal.goal.now)) _ c.in_ok-goal-2.ensures.goal in
     rw (p.1, p.2) (fault_kept _ (whole_number (view c.in_ok-target.target.now)) (argument_of (view c.args.value.now))
-    (λ none. rw (four, c.in_ok-format.ensures, c.in_ok-goal.ensures, c.in_ok-steps.ensures, c.in_ok-target.ensures, read, three, aim, none) (behind_none (steps_in (view c.in_ok-steps.steps.now))))
+    (λ none. rw (four, c.in_ok-format.ensures, c.in_ok-goal.ensures, c.in_ok-steps.ensures, c.in_ok-target.ensures, read, three, aim, none)
+    (behind_none (steps_in (view c.in_ok-steps.steps.now))))
     c.in_err-target-2.ensures.number)
 
 pub returns-in_err-steps_from-clause-argument : goal.returns-in_err-steps_from-clause-argument
