@@ -43,8 +43,11 @@ def is_open(crate, path, name):
     module = path.removeprefix("src/").removesuffix(".rt").replace("/", "::")
     if module == "lib" or re.search(rf"^pub mod {module.partition('::')[0]};", root, re.M):
         return True
-    handed = re.findall(rf"^pub use {module}::(?:\{{([^}}]*)\}}|(\w+));", root, re.M)
-    return name.partition("::")[0] in re.split(r",\s*", ", ".join(a or b for a, b in handed))
+    parts = module.split("::")
+    # (the root may hand it out by the module that its own stands in)
+    inside = "|".join("::".join(parts[:count]) for count in range(1, len(parts) + 1))
+    handed = re.findall(rf"^pub use (?:{inside})::(?:\{{([^}}]*)\}}|(\w+));", root, re.M)
+    return name.partition("::")[0] in re.split(r"\W+", " ".join(a or b for a, b in handed))
 
 
 def functions(crate):
