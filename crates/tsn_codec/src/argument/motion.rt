@@ -185,12 +185,12 @@ fn motion(tokens: &mut Tokens<'_>, word: &str) -> Result<Move, Unread>
     } else if word == "use" {
         Ok(Move::Use(last_number(tokens)? as usize))
     } else {
-        placing_motion(tokens, word)
+        later_motion(tokens, word)
     }
 }
 
 // The same of the words behind the first three.
-fn placing_motion(tokens: &mut Tokens<'_>, word: &str) -> Result<Move, Unread>
+fn later_motion(tokens: &mut Tokens<'_>, word: &str) -> Result<Move, Unread>
     ensures { Takes (λ motion. motion) result ((row_of (drop 3 motions) word.now).rest tokens.old) tokens.new }
 {
     if word == "arrive" {
