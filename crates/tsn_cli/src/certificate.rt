@@ -54,7 +54,15 @@ fn write_argument<C: Sink>(alloc: Global, sink: &mut C, argument: Argument) -> R
 {
     let text = argument_to_json(alloc, &argument);
     drop(argument);
-    let text = text?;
+    write_rest(sink, text?)
+}
+
+// Writes what is left of a certificate, and says that it is whole.
+fn write_rest<C: Sink>(sink: &mut C, text: String) -> Result<(), ReadFault>
+    requires { C.failed sink.old < 2 ^ 64 - 1 }
+    ensures put { IsPut (C.taken sink.old) (C.taken sink.new) (string_bytes text) (λ _. []) result }
+    ensures failures { IsCounted (C.failed sink.old) (C.failed sink.new) result }
+{
     write_whole(sink, text.as_bytes())?;
     Ok(())
 }
@@ -105,8 +113,7 @@ fn write_end<C: Sink>(
     let mut text = text;
     let tail = tail_to_json(alloc, target)?;
     text.push_str(tail.as_str())?;
-    write_whole(sink, text.as_bytes())?;
-    Ok(())
+    write_rest(sink, text)
 }
 
 // Writes the nodes behind a text. The answer is what isn't written yet.

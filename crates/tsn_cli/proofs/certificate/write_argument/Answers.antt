@@ -1,14 +1,6 @@
-use Rattle.std.proofs.Common.{rules, []}
-use Rattle.tsn_cli.proofs.PieceLemmas.{begun, none_put, parted_taken, parted_whole}
+use Rattle.std.proofs.Common.{rules}
+use Rattle.tsn_cli.proofs.PieceLemmas.{none_put}
 use Rattle.tsn_cli.proofs.certificate.write_argument.Goals as goal
 
 pub returns-in_err-text-clause-put : goal.returns-in_err-text-clause-put
 returns-in_err-text-clause-put g c = (search rules, none_put _ _ _)
-
-pub returns-in_err-write_whole-clause-put : goal.returns-in_err-write_whole-clause-put
-returns-in_err-write_whole-clause-put g c =
-    let part = c.in_err-write_whole.ensures.beginning in
-    (search rules, begun _ _ _ _ _ (parted_taken _ _ [] _ part.0 _ (search rules) part.1))
-
-pub returns-clause-put : goal.returns-clause-put
-returns-clause-put g c = (parted_whole _ _ [] _ _ (search rules) c.in_ok-write_whole.ensures.whole, tt)

@@ -1,5 +1,6 @@
-use Rattle.std.proofs.Common.{rules, [], ◌≡◌, ◌++◌, string_bytes}
-use Rattle.tsn_cli.proofs.PieceLemmas.{begun, none_put, parted_taken, parted_whole}
+use Rattle.std.proofs.Common.{rules, [], subst}
+use Rattle.tsn_cli.specs.Pieces.{IsPut}
+use Rattle.tsn_cli.proofs.PieceLemmas.{none_put}
 use Rattle.tsn_cli.proofs.certificate.write_end.Goals as goal
 
 pub returns-in_err-tail-clause-put : goal.returns-in_err-tail-clause-put
@@ -8,10 +9,6 @@ returns-in_err-tail-clause-put g c = (search rules, none_put _ _ _)
 pub returns-in_err-push_str-clause-put : goal.returns-in_err-push_str-clause-put
 returns-in_err-push_str-clause-put g c = (search rules, none_put _ _ _)
 
-pub returns-in_err-write_whole-clause-put : goal.returns-in_err-write_whole-clause-put
-returns-in_err-write_whole-clause-put g c =
-    let part = c.in_err-write_whole.ensures.beginning in
-    (search rules, begun _ _ _ _ _ (parted_taken _ _ [] _ part.0 _ (search rules) part.1))
-
 pub returns-clause-put : goal.returns-clause-put
-returns-clause-put g c = (parted_whole _ _ [] _ _ (search rules) c.in_ok-write_whole.ensures.whole, tt)
+returns-clause-put g c = subst (λ rest. IsPut (g.C.Sink.taken c.args.sink.now) (g.C.Sink.taken c.write_rest.new.sink) rest (λ _. []) c.write_rest.result)
+    (search rules) c.write_rest.ensures.put
