@@ -5,7 +5,7 @@ use Rattle.std.proofs.lemmas.List.Elements.{All-nil}
 use Rattle.tsn_model.specs.Network.{Network, IsWellFormed, route_link}
 use Rattle.tsn_model.specs.Gates.{cycle_of}
 use Rattle.tsn_model.specs.Bridge.{LinkGates}
-use Rattle.tsn_model.proofs.OnTime.{hop_uses}
+use Rattle.tsn_model.proofs.Hops.{hop_uses}
 use Rattle.tsn_gate.specs.GateLists.{IsUsed}
 use Rattle.tsn_gate.specs.Merged.{AreListsBy}
 use Rattle.tsn_gate.specs.Faults.{NamesLinks, KeepsLimits, IsListed, IsWithin, HasReplayFault}

@@ -11,7 +11,7 @@ use Rattle.std.proofs.lemmas.List.Sums.{sum_by_push, sum_by_more, sum_by-take-le
 use Rattle.tsn_model.specs.Network.{Network, Stream, IsWellFormed, stream_count, no_stream, stream_at, period_of, turns_of, burst_of, frame_count}
 use Rattle.tsn_model.specs.Timing.{pace, shifts, Sends}
 use Rattle.tsn_model.proofs.Lists.{range_more}
-use Rattle.tsn_model.proofs.OnTime.{cycle_below}
+use Rattle.tsn_model.proofs.Hops.{cycle_below}
 use Rattle.tsn_gate.specs.Frames.{frames_below, place_of, frames_of, index_of, AreFirsts}
 
 -- pieces of one length

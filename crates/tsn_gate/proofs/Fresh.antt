@@ -12,7 +12,7 @@ use Rattle.tsn_model.specs.Network.{Network, IsWellFormed, stream_count}
 use Rattle.tsn_model.specs.Timing.{shifts, Sends}
 use Rattle.tsn_model.specs.Schedule.{offset_of}
 use Rattle.tsn_model.proofs.Lists.{All-flat_map, All-range, AllPairs-range, AllPairs-map, AllPairs-append, AllPairs-flat_map, Contains-nil, Contains-range, Contains-map, Contains-flat_map, range_more}
-use Rattle.tsn_model.proofs.OnTime.{cycle_below}
+use Rattle.tsn_model.proofs.Hops.{cycle_below}
 use Rattle.tsn_gate.specs.declared.queue.Frame.{Frame}
 use Rattle.tsn_gate.specs.Frames.{AreSpaced, frames_below}
 use Rattle.tsn_gate.specs.Queue.{AreInLine, frame_in, passage_of, fresh_frame}

@@ -11,7 +11,7 @@ use Rattle.tsn_model.specs.Timing.{hop_delay, shifts, Sends}
 use Rattle.tsn_model.specs.Bridge.{LinkGates, Passage, BridgeRun, link_of, length_of, scheduled_use, background_use, wire_uses, IsPassage, StartedAt, IsReady}
 use Rattle.tsn_model.proofs.Limits.{occupancy-ge}
 use Rattle.tsn_model.proofs.Lists.{Contains-map}
-use Rattle.tsn_model.proofs.OnTime.{hop_once, link_exists}
+use Rattle.tsn_model.proofs.Hops.{hop_once, link_exists}
 use Rattle.tsn_gate.specs.declared.queue.Frame.{Frame}
 use Rattle.tsn_gate.specs.declared.visits.Visit.{Visit}
 use Rattle.tsn_gate.specs.Queue.{Waits, IsHead, AreInLine, IsFirstAmong, IsFirstOnHop, IsVisit, frame_in, passage_of}

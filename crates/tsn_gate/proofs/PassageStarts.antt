@@ -4,7 +4,7 @@ use Rattle.std.proofs.lemmas.List.Elements.{All-push, All-weaker, Contains-push,
 use Rattle.std.proofs.lemmas.List.{map-append}
 use Rattle.tsn_model.specs.Network.{Network, IsWellFormed}
 use Rattle.tsn_model.specs.Bridge.{LinkGates, Passage, ScheduledStart, BridgeRun, link_of, length_of, scheduled_use, background_use, wire_uses, IsPassage, StartedAt, NotStartedBefore, IsReady, FitsAt, IsBlocked}
-use Rattle.tsn_model.proofs.OnTime.{hop_delay-pos, passage_cases}
+use Rattle.tsn_model.proofs.Hops.{hop_delay-pos, passage_cases}
 use Rattle.tsn_gate.specs.Progress.{IsRunSoFar, IsGreedySoFar, IsDue}
 use Rattle.tsn_gate.proofs.Progress.{Extends, AddsUse, ready_more, waits_more, greedy_more, adds_use}
 

@@ -10,7 +10,7 @@ use Rattle.tsn_model.specs.Timing.{shifts}
 use Rattle.tsn_model.specs.Bridge.{Passage, ScheduledStart, BridgeRun, IsPassage, StartedAt}
 use Rattle.tsn_model.proofs.Limits.{hops-le}
 use Rattle.tsn_model.proofs.Lists.{All-flat_map, All-range, All-unmap, range_more}
-use Rattle.tsn_model.proofs.OnTime.{passage_cases, same_cycle, cycle_below}
+use Rattle.tsn_model.proofs.Hops.{passage_cases, same_cycle, cycle_below}
 use Rattle.tsn_gate.specs.declared.trace.Row.{Row}
 use Rattle.tsn_gate.specs.Frames.{frames_of, index_of}
 use Rattle.tsn_gate.proofs.Counting.{index-below, one_index}

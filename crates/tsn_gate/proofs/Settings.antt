@@ -15,7 +15,7 @@ use Rattle.tsn_model.specs.Bridge.Background.{nothing, greedy, frames}
 use Rattle.tsn_model.proofs.Lists.{AllPairs-map}
 use Rattle.tsn_model.proofs.Schedules.{offsets_within}
 use Rattle.tsn_model.proofs.Limits.{hops-pos}
-use Rattle.tsn_model.proofs.OnTime.{hop_uses}
+use Rattle.tsn_model.proofs.Hops.{hop_uses}
 use Rattle.tsn_model.proofs.Routes.{occupancy-pos, window-le-cycle}
 use Rattle.tsn_gate.proofs.Ascending.{shifts_ascend}
 use Rattle.tsn_gate.specs.declared.replay_fault.ReplayFault.{ReplayFault}

@@ -10,7 +10,7 @@ use Rattle.tsn_model.specs.Timing.{hop_delay}
 use Rattle.tsn_model.specs.Schedule.{offset_of}
 use Rattle.tsn_model.specs.Bridge.{LinkGates, Passage, ScheduledStart, BridgeRun, WireUse, link_of, length_of, scheduled_use, background_use, wire_uses, AreDisjoint, IsPassage, StartedAt, NotStartedBefore, IsReady, FitsAt, IsBlocked}
 use Rattle.tsn_model.proofs.Limits.{occupancy-ge}
-use Rattle.tsn_model.proofs.OnTime.{hop_once, same_cycle, link_exists, passage_cases}
+use Rattle.tsn_model.proofs.Hops.{hop_once, same_cycle, link_exists, passage_cases}
 use Rattle.tsn_model.proofs.Lists.{Contains-map}
 use Rattle.tsn_gate.specs.declared.queue.Frame.{Frame}
 use Rattle.tsn_gate.specs.Queue.{Waits, IsHead, IsSilent, frame_in, passage_of}

@@ -7,7 +7,7 @@ use Rattle.std.proofs.Math.Seq.{get_or-append_seam}
 use Rattle.std.proofs.lemmas.List.Elements.{All-nil, All-cons, All-append, Contains-append_left, Contains-push}
 use Rattle.tsn_model.specs.Network.{Network, IsWellFormed, stream_count, hop_count, route_link}
 use Rattle.tsn_model.specs.Timing.{hop_on, UsesLink}
-use Rattle.tsn_model.proofs.OnTime.{hop_uses, hop_once}
+use Rattle.tsn_model.proofs.Hops.{hop_uses, hop_once}
 use Rattle.tsn_model.proofs.Routes.{hop_on_found, hop_on_link}
 use Rattle.tsn_gate.specs.declared.visits.Visit.{Visit}
 use Rattle.tsn_gate.specs.Queue.{IsVisit, AreVisits, AreAllVisits, visit_of}

@@ -7,6 +7,7 @@ pub mod bounds;
 pub mod laws;
 pub mod plain;
 pub mod search_laws;
+pub mod tolerance;
 
 use std::alloc::AllocError;
 use thiserror::Error;

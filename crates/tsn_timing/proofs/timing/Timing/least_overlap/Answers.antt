@@ -4,7 +4,7 @@ use Rattle.tsn_model.specs.Network.{stream_count, route_link}
 use Rattle.tsn_model.specs.Timing.{occupancy, hop_on}
 use Rattle.tsn_model.specs.Schedule.{offset_of}
 use Rattle.tsn_model.proofs.Routes.{hop_on_found, hop_on_link}
-use Rattle.tsn_model.proofs.OnTime.{hop_uses, hop_start}
+use Rattle.tsn_model.proofs.Hops.{hop_uses, hop_start}
 use Rattle.tsn_timing.proofs.Overlapping.{judged}
 use Rattle.tsn_timing.proofs.timing.Timing.least_overlap.Goals as goal
 

@@ -1,0 +1,6 @@
+use Rattle.tsn_model.proofs.OnTime.{none_tolerated, none_hold, none_led, exact_run}
+use Rattle.tsn_model.proofs.laws.exact_runs_are_early_runs.Goals as goal
+
+pub returns : goal.returns
+returns c = λ network formed offsets gates.
+    (none_tolerated network formed offsets, none_hold network offsets gates, none_led network formed offsets, λ cycles run is. exact_run network offsets gates cycles run is)

@@ -1,0 +1,66 @@
+//! How early frames may be ready on a link, in nanoseconds.
+
+ghost use Rattle.std.specs.Prelude.{◌≡◌, ◌+◌, ◌≤◌, ◌<◌, ◌↔◌, ℕ, List, length, All, AllPairs};
+ghost use Rattle.tsn_model.specs.Network.{stream_count, hop_count, route_link};
+ghost use Rattle.tsn_model.specs.Timing.{hop_delay};
+ghost use Rattle.tsn_model.specs.Schedule.{IsValid};
+ghost use Rattle.tsn_model.specs.Early.{ToleratesOn};
+ghost use Rattle.tsn_model.specs.Tolerance.{AreStartsOn, AreFar};
+ghost use Rattle.tsn_model.specs.PlainWords.{Under};
+
+use crate::plain::PlainNetwork;
+
+/// The greatest slack that a valid schedule tolerates on a link, whose planned starts in a cycle are these, one at least.
+pub fn tolerance(network: &PlainNetwork, link: usize, starts: &[u64]) -> u64
+    ghost offsets: { List ℕ }
+    requires valid { IsValid network.now offsets }
+    requires starts { AreStartsOn network.now offsets link starts.now }
+    requires some { 0 < length starts.now }
+    ensures { (slack : ℕ) → ToleratesOn network.now offsets link slack ↔ (slack ≤ result) }
+{
+    let gap = least_gap(network.cycle(), starts);
+    least_delay(network, link, gap) - 1
+}
+
+// The least time from one of these instants of the cycle to the next, over the cycle's end too.
+fn least_gap(cycle: u64, starts: &[u64]) -> u64
+    requires cycle { cycle ≤ 1_000_000_000 }
+    requires some { 0 < length starts.now }
+    requires in_order { AllPairs ◌<◌ starts.now }
+    requires within { All (λ start. start < cycle) starts.now }
+    ensures { (slack : ℕ) → (slack < result) ↔ AreFar cycle starts.now slack }
+{
+    let mut least = starts[0] + cycle - starts[starts.len() - 1];
+    for k in 1..starts.len() {
+        least = least.min(starts[k] - starts[k - 1]);
+    }
+    least
+}
+
+// The least delay of a hop whose next one goes over the link, at most `most`.
+fn least_delay(network: &PlainNetwork, link: usize, most: u64) -> u64
+    ensures { Under result most (λ slack. (i : ℕ) → i < stream_count network.now
+        → ((k : ℕ) → k + 1 < hop_count network.now i → route_link network.now i (k + 1) ≡ link → slack < hop_delay network.now i (route_link network.now i k))) }
+{
+    let mut least = most;
+    for i in 0..network.streams() {
+        least = delay_before(network, link, i, least);
+    }
+    least
+}
+
+// The delay of the hop of stream `i` before the link, if there is one, at most `most`.
+fn delay_before(network: &PlainNetwork, link: usize, i: usize, most: u64) -> u64
+    requires { i < stream_count network.now }
+    ensures { Under result most (λ slack. (k : ℕ) → k + 1 < hop_count network.now i → route_link network.now i (k + 1) ≡ link → slack < hop_delay network.now i (route_link network.now i k)) }
+{
+    // The network is within its limits.
+    let _limits = network.cycle();
+    let Some(hop) = network.hop_on(i, link) else {
+        return most;
+    };
+    if hop == 0 {
+        return most;
+    }
+    most.min(network.hop_delay(i, network.route_link(i, hop - 1)))
+}
