@@ -25,8 +25,8 @@ use Rattle.tsn_cert.specs.declared.certificate.Certificate.TheVariants.{Tree}
 use Rattle.tsn_cert.specs.ArgumentLaws.{ArgumentIsReadAgain}
 use Rattle.tsn_argue.specs.Certified as argue
 use Rattle.tsn_argue.specs.Certified.{argument_verdict, goal_for}
-use Rattle.tsn_answer.specs.Optimum.{FindsOptimum, IsFoundPlan}
-use Rattle.tsn_answer.specs.Answer.{Shows, IsStopped, IsFinished, IsArgued, IsCertOf, IsAnswerReadAgain, IsAnswerShown, IsReadAgain, IsFound, HasNoneOpen, plan_kept, answer_for, whole_verdict}
+use Rattle.tsn_answer.specs.Optimum.{AnswersOptimum, FindsOptimum, IsFoundPlan}
+use Rattle.tsn_answer.specs.Answer.{Shows, IsStopped, IsFinished, IsArgued, IsCertOf, IsAnswerReadAgain, IsAnswerShown, IsReadAgain, IsFound, IsOfBook, HasNoneOpen, plan_kept, answer_for, whole_verdict}
 use Rattle.tsn_answer.specs.declared.found.Found.{Found}
 use Rattle.tsn_answer.specs.declared.found.Found.TheVariants as found
 use Rattle.tsn_book.specs.Book.{Progress, IsLawful}
@@ -106,7 +106,7 @@ finished_within network limit greater book more done = record {
 
 -- the answer that has a plan: that plan is the optimum, its certificate shows it, and the certificate's file says it
 pub answer_optimum : (network : Network) (plan : Plan) (certificate : Certificate) (count : ℕ) → IsFoundPlan network plan
-    → FindsOptimum network (answer_for plan certificate count)
+    → AnswersOptimum network (answer_for plan certificate count)
 answer_optimum network (plan.Schedule span offsets) certificate count found = found
 answer_optimum network plan.None certificate count found = found
 
@@ -171,7 +171,7 @@ kept_here network limit book plan is done = is ∙ ap (λ n. plan_kept n (kept_o
 
 pub certified_optimum : (network : Network) (limit : ℕ) (book : Progress) (plan : Plan) (certificate : Certificate) (count : ℕ)
     → plan ≡ plan_kept book.network (kept_of book.network book.history) → IsFinished network limit book
-    → FindsOptimum network (answer_for plan certificate count)
+    → AnswersOptimum network (answer_for plan certificate count)
 certified_optimum network limit book plan certificate count is done =
     answer_optimum network plan certificate count (subst (IsFoundPlan network) (sym (kept_here network limit book plan is done)) done.found)
 
@@ -213,3 +213,20 @@ pub none_open : (network : Network) (limit : ℕ) (found : Found) → IsFound ne
 none_open network limit (found.Finished book) done = done.none_open
 none_open network limit (found.Argued plan argument) argued = tt
 none_open network limit (found.Stopped book known) stopped = tt
+
+-- what is left is the optimum
+kept_first : (network : Network) (kept : Option (List ℕ)) → IsFoundPlan network (plan_kept network kept)
+    → MatchOption kept (HasNoSchedule network) (IsFirst network)
+kept_first network None none = none
+kept_first network (Some offsets) first = first.0
+
+pub found_optimum : (network : Network) (limit : ℕ) (found : Found) → IsFound network limit found → FindsOptimum network found
+found_optimum network limit (found.Finished book) done = kept_first network (kept_of network book.history) done.found
+found_optimum network limit (found.Argued plan argument) argued = argued.found
+found_optimum network limit (found.Stopped book known) stopped = tt
+
+-- the answer of a book that has left nothing open
+pub of_book : (book : Progress) (plan : Plan) (cert : Cert) (count : ℕ) → plan ≡ plan_kept book.network (kept_of book.network book.history)
+    → IsCertOf book cert → count ≡ length book.history → IsOfBook book (answer_for plan (Tree cert) count)
+of_book book (plan.Schedule span offsets) cert count is of counted = record { planned = is; tree = of; counted = counted }
+of_book book plan.None cert count is of counted = record { planned = is; tree = of; counted = counted }

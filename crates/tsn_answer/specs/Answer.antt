@@ -10,7 +10,7 @@
 --     IsAnswerShown what shows an answer to a network
 --     IsAnswerReadAgain     the file of its certificate says it
 --     MayArgue, IsCertificateBy, IsFoundBy, IsAnswerBy, HasTree     of what kind a certificate may be, by what was asked for
---     count_in, IsCounted     how much was done for an answer
+--     IsTreeOf, IsToldOf, IsOfBook, IsCounted     what is answered of a book
 --     HasNoArgument, HasAnswer, IsLeft, KeepsKnown, KeepsKept, KeepsFound     what the phases of a search leave to one another
 use Rattle.std.specs.Prelude.{◌≡◌, ◌≤◌, ◌<◌, ◌+◌, ◌-◌, ◌^◌, ℕ, List, [], length, Option, Some, None, MatchOption}
 use Rattle.tsn_model.specs.Network.{Network}
@@ -179,17 +179,28 @@ HasTree (Optimal plan certificate count) = IsTree certificate
 HasTree (NoSchedule certificate count) = IsTree certificate
 HasTree (Stopped book) = Unit {0}
 
--- how many nodes are settled, or steps shown, by what is answered
-abbrev pub count_in : Answer → ℕ
-count_in (Optimal plan certificate count) = count
-count_in (NoSchedule certificate count) = count
-count_in (Stopped book) = length book.history
+-- a tree of a book's own, with a node for each of its settlements
+abbrev pub IsTreeOf : Progress → Certificate → Type 0
+IsTreeOf book (Tree cert) = IsCertOf book cert
+IsTreeOf book (Argued argument) = ⊥
 
--- what is answered of a book counts its settlements; of an argument there is no tree
+-- the plan of what the book has kept, its tree, and how many settlements it has
+pub record IsToldOf (book : Progress) (plan : Plan) (certificate : Certificate) (count : ℕ) : Type 0 where
+  pub planned : plan ≡ plan_kept book.network (kept_of book.network book.history)
+  pub tree : IsTreeOf book certificate
+  pub counted : count ≡ length book.history
+
+-- what is answered of a book: what it tells, or itself
+abbrev pub IsOfBook : Progress → Answer → Type 0
+IsOfBook book (Optimal plan certificate count) = IsToldOf book plan certificate count
+IsOfBook book (NoSchedule certificate count) = IsToldOf book plan.None certificate count
+IsOfBook book (Stopped left) = left ≡ book
+
+-- what is answered of a book is of that book, and counts its settlements; of an argument there is no tree
 abbrev pub IsCounted : Found → Answer → Type 0
-IsCounted (found.Finished book) answer = count_in answer ≡ length book.history
+IsCounted (found.Finished book) answer = IsOfBook book answer
 IsCounted (found.Argued plan argument) answer = HasTree answer → ⊥
-IsCounted (found.Stopped book known) answer = count_in answer ≡ length book.history
+IsCounted (found.Stopped book known) answer = IsOfBook book answer
 
 -- ---- the phases of a search
 

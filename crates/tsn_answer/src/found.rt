@@ -5,8 +5,8 @@ ghost use Rattle.tsn_model.specs.Search.{open_paths, kept_of};
 ghost use Rattle.tsn_cert.specs.declared.plan.Plan.TheVariants.{Schedule};
 ghost use Rattle.tsn_answer.specs.declared.effort.Effort.{Effort};
 ghost use Rattle.tsn_answer.specs.Known.{IsKnown};
-ghost use Rattle.tsn_answer.specs.Optimum.{FindsOptimum};
-ghost use Rattle.tsn_answer.specs.Answer.{IsAnswerBy, IsAnswerReadAgain, IsAnswerShown, IsArgued, IsCertificateBy, IsFinished, IsFound, IsFoundBy, MayArgue, HasNoArgument, HasNoneOpen, HasTree, IsCounted, IsLeft, IsTree, KeepsKnown, count_in, plan_kept, answer_for};
+ghost use Rattle.tsn_answer.specs.Optimum.{AnswersOptimum};
+ghost use Rattle.tsn_answer.specs.Answer.{IsAnswerBy, IsAnswerReadAgain, IsAnswerShown, IsArgued, IsCertificateBy, IsFinished, IsFound, IsFoundBy, MayArgue, HasNoArgument, HasNoneOpen, HasTree, IsCounted, IsLeft, IsOfBook, IsTree, KeepsKnown, plan_kept, answer_for};
 
 use crate::answer::Answer;
 use crate::known::Known;
@@ -57,7 +57,7 @@ impl Found {
     /// The answer, with its certificate. The error says that there was no memory.
     pub fn into_answer(self, alloc: Global) -> Result<Answer, NoMemory>
         requires { HasNoneOpen self }
-        ensures optimum { IfOk result (λ answer. (network : Network) (limit : ℕ) → IsFound network limit self → FindsOptimum network answer) }
+        ensures optimum { IfOk result (λ answer. (network : Network) (limit : ℕ) → IsFound network limit self → AnswersOptimum network answer) }
         ensures shown { IfOk result (λ answer. (network : Network) (limit : ℕ) → IsFound network limit self → IsAnswerShown network limit answer) }
         ensures read_again { IfOk result (λ answer. (network : Network) (limit : ℕ) → IsFound network limit self → IsAnswerReadAgain answer) }
         ensures method { IfOk result (λ answer. (effort : Effort) → IsFoundBy effort self → IsAnswerBy effort answer) }
@@ -87,11 +87,11 @@ pub fn plan_of(alloc: Global, book: &Book) -> Result<Plan, NoMemory>
 // The answer of a search that left nothing open.
 fn certify(alloc: Global, book: Book) -> Result<Answer, NoMemory>
     requires { open_paths book.history ≡ [] }
-    ensures optimum { IfOk result (λ answer. (network : Network) (limit : ℕ) → IsFinished network limit book → FindsOptimum network answer) }
+    ensures optimum { IfOk result (λ answer. (network : Network) (limit : ℕ) → IsFinished network limit book → AnswersOptimum network answer) }
     ensures shown { IfOk result (λ answer. (network : Network) (limit : ℕ) → IsFinished network limit book → IsAnswerShown network limit answer) }
     ensures read_again { IfOk result IsAnswerReadAgain }
     ensures method { IfOk result (λ answer. (effort : Effort) → IsAnswerBy effort answer) }
-    ensures counted { IfOk result (λ answer. count_in answer ≡ length book.history) }
+    ensures of_book { IfOk result (IsOfBook book) }
 {
     let count = book.count();
     let plan = match plan_of(alloc, &book) {
@@ -111,7 +111,7 @@ fn certify(alloc: Global, book: Book) -> Result<Answer, NoMemory>
 }
 
 fn argued(plan: Plan, argument: Argument) -> Answer
-    ensures optimum { (network : Network) (limit : ℕ) → IsArgued network limit plan argument → FindsOptimum network result }
+    ensures optimum { (network : Network) (limit : ℕ) → IsArgued network limit plan argument → AnswersOptimum network result }
     ensures shown { (network : Network) (limit : ℕ) → IsArgued network limit plan argument → IsAnswerShown network limit result }
     ensures read_again { (network : Network) (limit : ℕ) → IsArgued network limit plan argument → IsAnswerReadAgain result }
     ensures method { (effort : Effort) → MayArgue effort.method effort.limit → IsAnswerBy effort result }
@@ -124,7 +124,6 @@ fn argued(plan: Plan, argument: Argument) -> Answer
 fn answer_for(plan: Plan, certificate: Certificate, count: usize) -> Answer
     ensures answer { result ≡ answer_for plan certificate count }
     ensures method { (effort : Effort) → IsCertificateBy effort certificate → IsAnswerBy effort result }
-    ensures counted { count_in result ≡ count }
     ensures tree { HasTree result → IsTree certificate }
 {
     match plan {

@@ -34,8 +34,7 @@ pub fn prove<S: Supervisor>(
     let bound = bound_for(alloc, problem)?;
     supervisor.hear_bound(bound);
     supervisor.begin(Phase::Learning);
-    tell_plan(plan, supervisor);
-    let timing = problem.timing(alloc)?;
+    let timing = problem.timing();
     let task = Task {
         problem,
         plan,
@@ -46,14 +45,12 @@ pub fn prove<S: Supervisor>(
         Plan::Schedule { offsets, .. } => about_schedule(
             alloc,
             task,
-            &timing,
+            timing,
             offsets.list(),
             supervisor,
         ),
-        Plan::None => about_none(alloc, task, &timing, supervisor),
-    };
-    drop(timing);
-    let found = found?;
+        Plan::None => about_none(alloc, task, timing, supervisor),
+    }?;
     tell_found(plan, &found, supervisor);
     Ok(found)
 }
@@ -62,13 +59,13 @@ pub fn prove<S: Supervisor>(
 fn tell_found<S: Supervisor>(plan: &Plan, found: &Proof, supervisor: &S) {
     match (found, plan) {
         (Proof::Proved(_, _), Plan::Schedule { flowspan, .. }) => supervisor.hear_bound(*flowspan),
-        (Proof::Undercut(better, _), _) => tell_plan(better, supervisor),
+        (Proof::Undercut(better, _), _) => tell_better(better, supervisor),
         (Proof::Proved(_, _), Plan::None) | (Proof::Stopped(_, _), _) => {}
     }
 }
 
-// Tells the supervisor of the plan's flowspan, which is the best one known.
-fn tell_plan<S: Supervisor>(plan: &Plan, supervisor: &S) {
+// Tells the supervisor of a better plan's flowspan. (That of the plan itself the search tells before its first question.)
+fn tell_better<S: Supervisor>(plan: &Plan, supervisor: &S) {
     if let Plan::Schedule { flowspan, .. } = plan {
         let news = News {
             nodes: 0,

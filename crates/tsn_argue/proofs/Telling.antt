@@ -1,4 +1,4 @@
--- What a listener has heard of moves and steps that are taken one after another.
+-- What an observer has heard of moves and steps that are taken one after another.
 use Rattle.std.proofs.Common.{◌≡◌, ℕ, ◌+◌, ◌<◌, List, [], ◌∷◌, ◌++◌, length, take, get_or, map, Option, Some, None, refl, sym, ap, ◌∙◌, append_assoc, append-nil}
 use Rattle.tsn_model.specs.Network.{Network}
 use Rattle.tsn_model.specs.Argument as model

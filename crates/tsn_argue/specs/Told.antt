@@ -1,4 +1,4 @@
--- What a listener is told of the steps of an argument.
+-- What an observer is told of the steps of an argument.
 --     Event, with_told                                  what it may be told, and what it has heard then
 --     told_moves, told_shown, told_step, told_steps     what it is told of moves and of steps that are right
 --     told_of                                           what it is told of an argument of a plan
@@ -14,7 +14,7 @@ pub data Event : Type 0 where
   makes : View → Move → List Fact → Event
   ends : View → Step → Event
 
--- what was heard with more that is told, where the listener can tell it
+-- what was heard with more that is told, where the observer can tell it
 abbrev pub with_told : Option (List Event) → List Event → Option (List Event)
 with_told None events = None
 with_told (Some heard) events = Some (heard ++ events)

@@ -12,9 +12,9 @@ ghost use Rattle.tsn_argue.specs.Steps.{goal_of, IsAim, IsReady, IsFirst, capped
 ghost use Rattle.tsn_argue.specs.Told.{makes, told_moves, told_shown, told_step, told_of, with_told};
 
 use crate::aim::{Aim, Stop};
-use crate::listener::Listener;
 use crate::motion::{Shown, judge};
 use crate::news::News;
+use crate::observer::Observer;
 use crate::view::View;
 use std::alloc::{AllocError, Global};
 use tsn_cert::{Clause, Fact, Move, Step};
@@ -77,17 +77,17 @@ fn suppose(view: &mut View<'_>, clause: &[Fact]) -> Result<(), NoMemory>
 }
 
 /// Makes the move of this number on the view, if that is possible.
-fn make<L: Listener>(
+fn make<L: Observer>(
     view: &mut View<'_>,
     clauses: &[&Clause],
     number: usize,
     motion: &Move,
-    listener: &mut L,
+    observer: &mut L,
 ) -> Result<(), Stop>
     requires sound { IsSound view.old }
     requires facts { AreFacts view.old.timing.now (clauses_of clauses.now) }
     ensures taken { TakesMove view.old view.new (clauses_of clauses.now) number (move_of motion.now) result }
-    ensures told { OnOk result (L.heard listener.new ≡ with_told (L.heard listener.old)
+    ensures told { OnOk result (L.heard observer.new ≡ with_told (L.heard observer.old)
         (makes (view_of view.old) (move_of motion.now) (shown view.old.timing.now (clauses_of clauses.now) (view_of view.old) (move_of motion.now)) ∷ [])) }
 {
     if view.crossed {
@@ -97,7 +97,7 @@ fn make<L: Listener>(
         Ok(shown) => shown,
         Err(wrong) => return Err(Stop::Wrong(StepFault::Move(number, wrong))),
     };
-    listener.make(view, clauses, motion, shown);
+    observer.make(view, clauses, motion, shown);
     learn_all(view, shown)?;
     Ok(())
 }
@@ -116,36 +116,36 @@ fn learn_all(view: &mut View<'_>, shown: Shown) -> Result<(), NoMemory>
 }
 
 /// Makes the moves one after another, as far as that is possible.
-fn make_all<L: Listener>(
+fn make_all<L: Observer>(
     view: &mut View<'_>,
     clauses: &[&Clause],
     moves: &[Move],
-    listener: &mut L,
+    observer: &mut L,
 ) -> Result<(), Stop>
     requires sound { IsSound view.old }
     requires facts { AreFacts view.old.timing.now (clauses_of clauses.now) }
     ensures taken { TakesMoves view.old view.new (clauses_of clauses.now) (map move_of moves.now) result }
-    ensures told { OnOk result (L.heard listener.new ≡ with_told (L.heard listener.old)
+    ensures told { OnOk result (L.heard observer.new ≡ with_told (L.heard observer.old)
         (told_moves view.old.timing.now (clauses_of clauses.now) (view_of view.old) (map move_of moves.now))) }
 {
     for (number, motion) in moves.iter().enumerate() {
-        make(view, clauses, number, motion, listener)?;
+        make(view, clauses, number, motion, observer)?;
     }
     Ok(())
 }
 
 /// The moves of a step, from the opposites of its clause's facts on: whether they show the clause.
-fn show<L: Listener>(
+fn show<L: Observer>(
     view: &mut View<'_>,
     clauses: &[&Clause],
     step: &Step,
-    listener: &mut L,
+    observer: &mut L,
 ) -> Result<(), Stop>
     requires sound { IsSound view.old }
     requires ready { view_of view.old ≡ base_of view.old }
     requires facts { AreFacts view.old.timing.now (clauses_of clauses.now) }
     ensures shows { ShowsStep view.old view.new (clauses_of clauses.now) (step_of step.now) result }
-    ensures told { OnOk result (L.heard listener.new ≡ with_told (L.heard listener.old)
+    ensures told { OnOk result (L.heard observer.new ≡ with_told (L.heard observer.old)
         (told_shown view.old.timing.now (known_on view.old (clauses_of clauses.now)) (step_of step.now))) }
 {
     if view.crossed {
@@ -153,9 +153,9 @@ fn show<L: Listener>(
     }
     let clause = step.clause.list();
     judge_facts(view.timing, clause)?;
-    listener.begin(view, step);
+    observer.begin(view, step);
     suppose(view, clause)?;
-    make_all(view, clauses, step.moves.list(), listener)?;
+    make_all(view, clauses, step.moves.list(), observer)?;
     if clause.is_empty() {
         return Ok(());
     }
@@ -211,20 +211,20 @@ impl<'a> Known<'a> {
     }
 
     /// Takes a step, if it is right.
-    fn take<L: Listener>(
+    fn take<L: Observer>(
         &mut self,
         aim: &Aim<'_>,
         step: &'a Step,
-        listener: &mut L,
+        observer: &mut L,
     ) -> Result<(), Stop>
         requires ready { IsReady self.old }
         requires aim { IsAim self.old.view.timing.now aim.now }
         ensures taken { TakesStep (goal_of aim.now) self.old self.new (step_of step.now) result }
-        ensures told { OnOk result (L.heard listener.new ≡ with_told (L.heard listener.old)
+        ensures told { OnOk result (L.heard observer.new ≡ with_told (L.heard observer.old)
             (told_step self.old.view.timing.now (known_of self.old) (step_of step.now))) }
     {
-        show(&mut self.view, self.clauses.as_slice(), step, listener)?;
-        listener.end(&self.view, step);
+        show(&mut self.view, self.clauses.as_slice(), step, observer)?;
+        observer.end(&self.view, step);
         self.keep_clause(&step.clause)?;
         if step.clause.list().len() <= 1 {
             settle(&mut self.view, aim)?;
@@ -303,23 +303,23 @@ fn first_below(view: &View<'_>, plan: &[u64]) -> Option<Open>
 }
 
 /// Whether the steps are right and settle what is to be shown; else their first fault.
-pub fn check_steps<L: Listener>(
+pub fn check_steps<L: Observer>(
     alloc: Global,
     timing: &Timing,
     aim: &Aim<'_>,
     steps: &[Step],
-    listener: &mut L,
+    observer: &mut L,
 ) -> Result<(), ArgumentFault>
     requires { IsAim timing.now aim.now }
     ensures ok { OnOk result (Argues timing.now (goal_of aim.now) (steps_of steps.now)) }
     ensures err { IfErr result (λ fault. (fault ≡ ArgumentFault.Memory)
         ⊎ IsArgumentFault timing.now (goal_of aim.now) (steps_of steps.now) fault) }
-    ensures told { OnOk result (L.heard listener.new ≡ with_told (L.heard listener.old)
+    ensures told { OnOk result (L.heard observer.new ≡ with_told (L.heard observer.old)
         (told_of timing.now (goal_of aim.now) (steps_of steps.now))) }
 {
     let mut known = Known::first(alloc, timing, aim)?;
     for (number, step) in steps.iter().enumerate() {
-        if let Err(stop) = known.take(aim, step, listener) {
+        if let Err(stop) = known.take(aim, step, observer) {
             return Err(stop.at(number));
         }
     }

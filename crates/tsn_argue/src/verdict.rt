@@ -10,7 +10,7 @@ ghost use Rattle.tsn_argue.specs.Aims.{FindsAim};
 ghost use Rattle.tsn_argue.specs.Told.{told_of, with_told};
 
 use crate::aim::Aim;
-use crate::listener::{Listener, Silent};
+use crate::observer::{Observer, Silent};
 use crate::step::check_steps;
 use std::alloc::Global;
 use tsn_cert::{Argument, Certificate, Goal, Plan};
@@ -66,13 +66,13 @@ pub fn check_argument(
     hear_argument(alloc, problem, plan, argument, &mut silent)
 }
 
-/// The same, and the listener is told of each step and each move.
-pub fn hear_argument<L: Listener>(
+/// The same, and the observer is told of each step and each move.
+pub fn hear_argument<L: Observer>(
     alloc: Global,
     problem: &Problem,
     plan: &Plan,
     argument: &Argument,
-    listener: &mut L,
+    observer: &mut L,
 ) -> Result<Verdict, CheckFault>
     ensures accepted { IfOk result (λ verdict. ArgumentCertifies problem.now.network plan.now argument.now) }
     ensures verdict { IfOk result (λ verdict. verdict ≡ argument_verdict argument.now.goal) }
@@ -83,21 +83,21 @@ pub fn hear_argument<L: Listener>(
     ensures fault { IfErr result (λ fault. (fault ≡ CheckFault.Memory)
         ⊎ IsShowFault problem.now.network plan.now argument.now fault) }
     ensures told { OnOk result ((goal : ModelGoal) → IsFitting problem.now.network plan.now argument.now goal
-        → L.heard listener.new ≡ with_told (L.heard listener.old) (told_of problem.now.network goal (steps_of argument.now.steps))) }
+        → L.heard observer.new ≡ with_told (L.heard observer.old) (told_of problem.now.network goal (steps_of argument.now.steps))) }
 {
-    match judge_argument(alloc, problem, plan, argument, listener) {
+    match judge_argument(alloc, problem, plan, argument, observer) {
         Ok(verdict) => Ok(verdict),
         Err(fault) => Err(fault.code()),
     }
 }
 
 /// The same, and the fault is told with the numbers that show it.
-pub fn judge_argument<L: Listener>(
+pub fn judge_argument<L: Observer>(
     alloc: Global,
     problem: &Problem,
     plan: &Plan,
     argument: &Argument,
-    listener: &mut L,
+    observer: &mut L,
 ) -> Result<Verdict, ArgumentFault>
     ensures accepted { IfOk result (λ verdict. ArgumentCertifies problem.now.network plan.now argument.now) }
     ensures verdict { IfOk result (λ verdict. verdict ≡ argument_verdict argument.now.goal) }
@@ -108,13 +108,13 @@ pub fn judge_argument<L: Listener>(
     ensures fault { IfErr result (λ fault. (fault ≡ ArgumentFault.Memory)
         ⊎ IsWhy problem.now.network plan.now argument.now fault) }
     ensures told { OnOk result ((goal : ModelGoal) → IsFitting problem.now.network plan.now argument.now goal
-        → L.heard listener.new ≡ with_told (L.heard listener.old) (told_of problem.now.network goal (steps_of argument.now.steps))) }
+        → L.heard observer.new ≡ with_told (L.heard observer.old) (told_of problem.now.network goal (steps_of argument.now.steps))) }
 {
-    let timing = problem.timing(alloc)?;
+    let timing = problem.timing();
     let _cycle = timing.cycle();
-    judge_claim(&timing, plan)?;
-    let aim = aim_of(&timing, plan, argument)?;
-    check_steps(alloc, &timing, &aim, argument.steps.list(), listener)?;
+    judge_claim(timing, plan)?;
+    let aim = aim_of(timing, plan, argument)?;
+    check_steps(alloc, timing, &aim, argument.steps.list(), observer)?;
     Ok(verdict_of(argument.goal))
 }
 

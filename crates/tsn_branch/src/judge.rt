@@ -185,10 +185,31 @@ fn judge_known(
         end,
         tightest,
     };
-    let tie = find_tie(alloc, tables, least, reach, aim.best)?;
-    if let Some(look) = tie {
+    if let Some(look) = find_tie(alloc, tables, least, reach, aim.best)? {
         return Ok(Judgement::Closed(look));
     }
+    judge_untied(alloc, tables, least, known, reach)
+}
+
+// What they come to where neither the target nor the best schedule closes the node: a split, or else the schedule.
+fn judge_untied(
+    alloc: Global,
+    tables: Tables<'_>,
+    least: &Least,
+    known: Inherited<'_>,
+    reach: Reach,
+) -> Result<Judgement, NoMemory>
+    requires some_path { (path : List Decision) × Solves (releases_of tables.timing.now) (arcs_of tables.timing.now path) least.now }
+    requires ends { AreEnds tables.timing.now least.now.offsets (ends.Within reach.last reach.end) }
+    requires raised { All (λ stream. stream < stream_count tables.timing.now) known.raised.now }
+    requires start { known.start ≤ length tables.conflicts.now.triples }
+    requires apart { OnlyRaisedOverlap tables.conflicts.now least.now.offsets known.raised.now known.start }
+    ensures { IfOk result (λ judgement. (path : List Decision) (target : ℕ) (best : Option Solution)
+        → Solves (releases_of tables.entry.timing.now) (arcs_of tables.entry.timing.now path) least.now → reach.end < target
+        → All (IsUnloaded tables.entry.timing.now least.now.offsets target) (shared_links tables.entry.timing.now)
+        → IsUntied tables.entry.timing.now least.now.offsets best → IsJudgement tables.entry.timing.now path target best judgement) }
+{
+    let Reach { last, end, .. } = reach;
     if let Some(triple) = tables
         .conflicts
         .first_violated_from(least.offsets(), known.raised, known.start)

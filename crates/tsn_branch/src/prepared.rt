@@ -16,40 +16,33 @@ use tsn_timing::{Problem, Timing};
 
 /// The times of a problem, its conflicts and the loads of its links.
 #[derive(Drop)]
-pub struct Prepared {
-    pub timing: Timing,
+pub struct Prepared<'a> {
+    pub timing: &'a Timing,
     pub conflicts: Conflicts,
     pub loads: Loads,
-    pub ghost right_conflicts: { AreConflictsOf timing conflicts } by { Prim.hlevel (props, rate-prop) },
-    pub ghost right_loads: { AreLoadsOf timing loads },
+    pub ghost right_conflicts: { AreConflictsOf timing.now conflicts } by { Prim.hlevel (props, rate-prop) },
+    pub ghost right_loads: { AreLoadsOf timing.now loads },
 }
 
-impl Prepared {
+impl<'p> Prepared<'p> {
     /// Those of a problem. The error says that there was no memory.
     //
     // Here and below a large value is dropped by a call, since the parts of one that goes out of scope are dropped in place, and
     // each proved at each such place.
-    pub fn of(alloc: Global, problem: &Problem) -> Result<Prepared, NoMemory>
-        ensures timing { IfOk result (λ prepared. prepared.timing ≡ problem.now.network) }
-        ensures conflicts { IfOk result (λ prepared. AreConflictsOf prepared.timing prepared.conflicts) }
-        ensures loads { IfOk result (λ prepared. AreLoadsOf prepared.timing prepared.loads) }
+    pub fn of(alloc: Global, problem: &'p Problem) -> Result<Prepared<'p>, NoMemory>
+        ensures timing { IfOk result (λ prepared. prepared.timing.now ≡ problem.now.network) }
+        ensures conflicts { IfOk result (λ prepared. AreConflictsOf prepared.timing.now prepared.conflicts) }
+        ensures loads { IfOk result (λ prepared. AreLoadsOf prepared.timing.now prepared.loads) }
     {
-        let timing = problem.timing(alloc)?;
-        let conflicts = match conflicts(alloc, &timing) {
-            Ok(conflicts) => conflicts,
-            Err(fault) => {
-                drop(timing);
-                return Err(fault);
-            }
-        };
-        match Loads::of(alloc, &timing) {
+        let timing = problem.timing();
+        let conflicts = conflicts(alloc, timing)?;
+        match Loads::of(alloc, timing) {
             Ok(loads) => Ok(Prepared {
                 timing,
                 conflicts,
                 loads,
             }),
             Err(fault) => {
-                drop(timing);
                 drop(conflicts);
                 Err(fault)
             }
@@ -58,12 +51,12 @@ impl Prepared {
 
     /// What a search is given that reads it.
     pub fn setting<'a, S>(&'a self, alloc: Global, supervisor: &'a S) -> Setting<'a, S>
-        ensures timing { result.tables.timing.now ≡ self.now.timing }
+        ensures timing { result.tables.timing.now ≡ self.now.timing.now }
         ensures conflicts { result.tables.conflicts.now ≡ self.now.conflicts }
         ensures loads { result.tables.loads.now ≡ self.now.loads }
     {
         let tables = Tables {
-            timing: &self.timing,
+            timing: self.timing,
             conflicts: &self.conflicts,
             loads: &self.loads,
         };

@@ -3,3 +3,4 @@ pub mod Longest
 pub mod Listing
 pub mod Wholes
 pub mod Counting
+pub mod Slacks

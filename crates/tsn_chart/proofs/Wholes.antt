@@ -79,7 +79,7 @@ all_known network offsets list is k d inside =
     (IsOctetAt-entry entries t k 0 d inside (omega arith) (omega arith)))
 
 pub shares_whole : (network : Network) (offsets : List ℕ) (lists : List LinkGates) (shares : List LinkShare) → AreWantedLists network offsets lists
-    → AreLinkShares network lists shares
+    → AreLinkShares network offsets lists shares
     → All (λ (share : LinkShare). share.scheduled + share.guard + share.open ≡ network.cycle) shares
 shares_whole network offsets lists shares wanted are k share inside =
     let none : LinkGates = record { link = 0; entries = [] } in
@@ -95,10 +95,11 @@ shares_whole network offsets lists shares wanted are k share inside =
     let whole = is.whole in
     omega arith
 
-pub shares_exist : (network : Network) (links : ℕ) (lists : List LinkGates) (shares : List LinkShare) → All (λ (list : LinkGates). list.link < links) lists
-    → AreLinkShares network lists shares
+pub shares_exist : (network : Network) (offsets : List ℕ) (links : ℕ) (lists : List LinkGates) (shares : List LinkShare)
+    → All (λ (list : LinkGates). list.link < links) lists
+    → AreLinkShares network offsets lists shares
     → All (λ (share : LinkShare). share.link < links) shares
-shares_exist network links lists shares exist are k share inside =
+shares_exist network offsets links lists shares exist are k share inside =
     let none : LinkGates = record { link = 0; entries = [] } in
     let count = are.count in
     let below : k < length lists = omega arith in

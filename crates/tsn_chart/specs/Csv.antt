@@ -1,5 +1,6 @@
 -- The shares as comma-separated values (RFC 4180).
 --     stream_record, link_record       a record of a stream and one of a link, which have the same fields
+--     slack_record                     one of the least slack
 --     csv_text                         all records
 use Rattle.std.specs.Prelude.{ℕ, List, [], ◌∷◌, ◌++◌, if◌then◌else◌, codes}
 use Rattle.std.specs.List.{flat_map}
@@ -17,7 +18,7 @@ use Rattle.tsn_chart.specs.Table.{stream_name}
 unfoldable pub stream_numbers : StreamShare → List ℕ
 stream_numbers share =
     codes "," ++ (decimal share.offset ++ (codes "," ++ (decimal share.latency ++ (codes "," ++ (decimal share.arrival ++ (codes "," ++ (decimal share.to_latest
-    ++ (codes "," ++ (decimal share.to_cycle ++ codes ",,,,,,,")))))))))
+    ++ (codes "," ++ (decimal share.span ++ (codes "," ++ (decimal share.to_period_end ++ codes ",,,,,,,,")))))))))))
 
 -- the end of its line: its period and its frames in it, where some stream of the network sends several a cycle
 unfoldable pub stream_end : Network → StreamShare → List ℕ
@@ -30,12 +31,13 @@ stream_record problem share = quoted_field (stream_name problem share.stream) ++
 
 -- the empty fields of a stream, and the link's number
 unfoldable pub link_head : ℕ → List ℕ
-link_head link = codes ",,,,,," ++ (decimal link ++ codes ",")
+link_head link = codes ",,,,,,," ++ (decimal link ++ codes ",")
 
 -- a link's numbers, each after a comma
 unfoldable pub link_numbers : LinkShare → List ℕ
 link_numbers share =
-    codes "," ++ (decimal share.scheduled ++ (codes "," ++ (decimal share.guard ++ (codes "," ++ (decimal share.open ++ (codes "," ++ decimal share.longest_open))))))
+    codes "," ++ (decimal share.scheduled ++ (codes "," ++ (decimal share.guard ++ (codes "," ++ (decimal share.open ++ (codes "," ++ (decimal share.longest_open
+    ++ (codes "," ++ decimal share.slack))))))))
 
 -- the end of its line: the empty fields of a stream and how many windows it has, where some stream of the network sends several frames a cycle
 unfoldable pub link_end : Network → LinkShare → List ℕ
@@ -47,12 +49,21 @@ link_record problem share =
     let link = link_at problem.network share.link in
     link_head share.link ++ (quoted_field (name_at problem link.from) ++ (codes "," ++ (quoted_field (name_at problem link.to) ++ (link_numbers share ++ link_end problem.network share))))
 
+-- the end of the last line: the empty fields of frames, where some stream of the network sends several a cycle
+unfoldable pub slack_end : Network → List ℕ
+slack_end network = if sends_several network then codes ",,,\r\n" else 13 ∷ 10 ∷ []
+
+-- the empty fields of a stream and of a link, and the least slack in that of a link's
+abbrev pub slack_record : Network → ℕ → List ℕ
+slack_record network slack = codes ",,,,,,,,,,,,,," ++ (decimal slack ++ slack_end network)
+
 -- the names of the fields
 abbrev pub header_text : Network → List ℕ
 header_text network =
-    codes "stream,offset,latency,arrival,to_latest,to_cycle,link,from,to,scheduled,guard,open,longest_open"
+    codes "stream,offset,latency,arrival,to_latest,span,to_period_end,link,from,to,scheduled,guard,open,longest_open,slack"
     ++ (if sends_several network then codes ",period,frames,windows\r\n" else codes "\r\n")
 
--- the header, a record for each stream, then one for each link
-abbrev pub csv_text : NamedNetwork → List StreamShare → List LinkShare → List ℕ
-csv_text problem streams links = header_text problem.network ++ (flat_map (stream_record problem) streams ++ flat_map (link_record problem) links)
+-- the header, a record for each stream, then one for each link, then that of the least slack
+abbrev pub csv_text : NamedNetwork → List StreamShare → List LinkShare → ℕ → List ℕ
+csv_text problem streams links slack =
+    header_text problem.network ++ (flat_map (stream_record problem) streams ++ (flat_map (link_record problem) links ++ slack_record problem.network slack))

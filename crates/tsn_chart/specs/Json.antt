@@ -1,6 +1,6 @@
 -- The shares as lines of JSON.
---     stream_value, link_value     the value of a line
---     json_text                    all lines
+--     stream_value, link_value, slack_value     the value of a line
+--     json_text                                 all lines
 use Rattle.std.specs.Prelude.{ℕ, List, [], ◌∷◌, ◌++◌, if◌then◌else◌, codes}
 use Rattle.std.specs.List.{flat_map}
 use Rattle.serde_json.specs.Data.{Data, number, unsigned, string, object, no_members, member}
@@ -20,16 +20,18 @@ number_value n = number (unsigned n)
 abbrev pub stream_value : NamedNetwork → StreamShare → Data
 stream_value problem share =
     object (member (codes "arrival") (number_value share.arrival) (member (codes "latency") (number_value share.latency)
-    (member (codes "offset") (number_value share.offset) (member (codes "stream") (string (stream_name problem share.stream))
-    (member (codes "to_cycle") (number_value share.to_cycle) (member (codes "to_latest") (number_value share.to_latest) no_members))))))
+    (member (codes "offset") (number_value share.offset) (member (codes "span") (number_value share.span)
+    (member (codes "stream") (string (stream_name problem share.stream)) (member (codes "to_latest") (number_value share.to_latest)
+    (member (codes "to_period_end") (number_value share.to_period_end) no_members)))))))
 
 -- the same with the period, and the frames in it
 abbrev pub several_value : NamedNetwork → StreamShare → Data
 several_value problem share =
     object (member (codes "arrival") (number_value share.arrival) (member (codes "frames") (number_value share.frames)
     (member (codes "latency") (number_value share.latency) (member (codes "offset") (number_value share.offset)
-    (member (codes "period") (number_value share.period) (member (codes "stream") (string (stream_name problem share.stream))
-    (member (codes "to_cycle") (number_value share.to_cycle) (member (codes "to_latest") (number_value share.to_latest) no_members))))))))
+    (member (codes "period") (number_value share.period) (member (codes "span") (number_value share.span)
+    (member (codes "stream") (string (stream_name problem share.stream)) (member (codes "to_latest") (number_value share.to_latest)
+    (member (codes "to_period_end") (number_value share.to_period_end) no_members)))))))))
 
 -- an object with the link, the names of the nodes that it joins, and its numbers
 abbrev pub link_value : NamedNetwork → LinkShare → Data
@@ -38,7 +40,7 @@ link_value problem share =
     object (member (codes "from") (string (name_at problem link.from)) (member (codes "guard") (number_value share.guard)
     (member (codes "link") (number_value share.link) (member (codes "longest_open") (number_value share.longest_open)
     (member (codes "open") (number_value share.open) (member (codes "scheduled") (number_value share.scheduled)
-    (member (codes "to") (string (name_at problem link.to)) no_members)))))))
+    (member (codes "slack") (number_value share.slack) (member (codes "to") (string (name_at problem link.to)) no_members))))))))
 
 -- the same with how many windows it has
 abbrev pub windows_value : NamedNetwork → LinkShare → Data
@@ -47,7 +49,12 @@ windows_value problem share =
     object (member (codes "from") (string (name_at problem link.from)) (member (codes "guard") (number_value share.guard)
     (member (codes "link") (number_value share.link) (member (codes "longest_open") (number_value share.longest_open)
     (member (codes "open") (number_value share.open) (member (codes "scheduled") (number_value share.scheduled)
-    (member (codes "to") (string (name_at problem link.to)) (member (codes "windows") (number_value share.windows) no_members))))))))
+    (member (codes "slack") (number_value share.slack) (member (codes "to") (string (name_at problem link.to))
+    (member (codes "windows") (number_value share.windows) no_members)))))))))
+
+-- an object with the least slack
+abbrev pub slack_value : ℕ → Data
+slack_value slack = object (member (codes "slack") (number_value slack) no_members)
 
 -- a value as JSON with no space, and a line feed
 abbrev pub line_text : Data → List ℕ
@@ -60,6 +67,9 @@ stream_json problem share = if sends_several problem.network then line_text (sev
 abbrev pub link_json : NamedNetwork → LinkShare → List ℕ
 link_json problem share = if sends_several problem.network then line_text (windows_value problem share) else line_text (link_value problem share)
 
--- a line for each stream, then one for each link
-abbrev pub json_text : NamedNetwork → List StreamShare → List LinkShare → List ℕ
-json_text problem streams links = flat_map (stream_json problem) streams ++ flat_map (link_json problem) links
+abbrev pub slack_json : ℕ → List ℕ
+slack_json slack = line_text (slack_value slack)
+
+-- a line for each stream, then one for each link, then that of the least slack
+abbrev pub json_text : NamedNetwork → List StreamShare → List LinkShare → ℕ → List ℕ
+json_text problem streams links slack = flat_map (stream_json problem) streams ++ (flat_map (link_json problem) links ++ slack_json slack)

@@ -1,6 +1,6 @@
 -- The shares as a table.
---     stream_line, link_line, table_text     its lines, and all of them
---     stream_name                            names
+--     stream_line, link_line, slack_line, table_text     its lines, and all of them
+--     stream_name                                        names
 use Rattle.std.specs.Prelude.{ℕ, List, [], ◌∷◌, ◌++◌, if◌then◌else◌, slice_get, unwrap_or, codes}
 use Rattle.std.specs.List.{flat_map}
 use Rattle.std.specs.Fmt.{decimal}
@@ -19,7 +19,7 @@ stream_name problem stream = unwrap_or (slice_get problem.stream_names stream) [
 unfoldable pub stream_numbers : StreamShare → List ℕ
 stream_numbers share =
     codes " offset " ++ (decimal share.offset ++ (codes " latency " ++ (decimal share.latency ++ (codes " arrival " ++ (decimal share.arrival
-    ++ (codes " to_latest " ++ (decimal share.to_latest ++ (codes " to_cycle " ++ decimal share.to_cycle))))))))
+    ++ (codes " to_latest " ++ (decimal share.to_latest ++ (codes " span " ++ (decimal share.span ++ (codes " to_period_end " ++ decimal share.to_period_end))))))))))
 
 -- the end of its line: its period and its frames in it, where some stream of the network sends several a cycle
 unfoldable pub stream_end : Network → StreamShare → List ℕ
@@ -38,7 +38,7 @@ link_head link from to = codes "link " ++ (decimal link ++ (codes " " ++ (from +
 unfoldable pub link_numbers : LinkShare → List ℕ
 link_numbers share =
     codes " scheduled " ++ (decimal share.scheduled ++ (codes " guard " ++ (decimal share.guard
-    ++ (codes " open " ++ (decimal share.open ++ (codes " longest_open " ++ decimal share.longest_open))))))
+    ++ (codes " open " ++ (decimal share.open ++ (codes " longest_open " ++ (decimal share.longest_open ++ (codes " slack " ++ decimal share.slack))))))))
 
 -- the end of its line: how many windows it has, where some stream of the network sends several frames a cycle
 unfoldable pub link_end : Network → LinkShare → List ℕ
@@ -49,6 +49,10 @@ link_line problem share =
     let link = link_at problem.network share.link in
     link_head share.link (name_at problem link.from) (name_at problem link.to) ++ (link_numbers share ++ link_end problem.network share)
 
--- a line for each stream, then one for each link
-abbrev pub table_text : NamedNetwork → List StreamShare → List LinkShare → List ℕ
-table_text problem streams links = flat_map (stream_line problem) streams ++ flat_map (link_line problem) links
+-- the least slack
+unfoldable pub slack_line : ℕ → List ℕ
+slack_line slack = codes "slack " ++ (decimal slack ++ 10 ∷ [])
+
+-- a line for each stream, then one for each link, then that of the least slack
+abbrev pub table_text : NamedNetwork → List StreamShare → List LinkShare → ℕ → List ℕ
+table_text problem streams links slack = flat_map (stream_line problem) streams ++ (flat_map (link_line problem) links ++ slack_line slack)

@@ -1,4 +1,4 @@
-//! What is the same in each format of the shares: a text for each stream, then one for each link.
+//! What is the same in each format of the shares: a text for each stream, then one for each link, then one of the least slack.
 ghost use Rattle.std.specs.Prelude.{◌≡◌, ◌++◌, ◌<◌, ℕ, All, IfOk, List, OnOk, length, string_bytes};
 ghost use Rattle.std.specs.List.{flat_map};
 ghost use Rattle.tsn_timing.specs.Problem.{NamedNetwork};
@@ -20,6 +20,9 @@ pub trait Format {
     /// The text of a link.
     ghost link_text: { NamedNetwork → LinkShare → List ℕ };
 
+    /// The text of the least slack.
+    ghost slack_text: { NamedNetwork → ℕ → List ℕ };
+
     /// Writes the text of a stream.
     fn stream(text: &mut String, problem: &Problem, share: &StreamShare) -> Result<(), AllocError>
         requires { share.now.stream < length problem.now.stream_names }
@@ -29,18 +32,23 @@ pub trait Format {
     fn link(text: &mut String, problem: &Problem, share: &LinkShare) -> Result<(), AllocError>
         requires { share.now.link < length problem.now.network.links }
         ensures { OnOk result (string_bytes text.new ≡ string_bytes text.old ++ link_text problem.now share.now) };
+
+    /// Writes the text of the least slack.
+    fn slack(text: &mut String, problem: &Problem, slack: u64) -> Result<(), AllocError>
+        ensures { OnOk result (string_bytes text.new ≡ string_bytes text.old ++ slack_text problem.now slack) };
 }
 
-/// The text, with that of each stream behind it, then that of each link.
+/// The text, with that of each stream behind it, then that of each link, then that of the least slack.
 pub fn append_shares<F: Format>(
     mut text: String,
     problem: &Problem,
     streams: &[StreamShare],
     links: &[LinkShare],
+    slack: u64,
 ) -> Result<String, NoMemory>
     requires streams { All (λ (share : StreamShare). share.stream < length problem.now.stream_names) streams.now }
     requires links { All (λ (share : LinkShare). share.link < length problem.now.network.links) links.now }
-    ensures { IfOk result (λ whole. string_bytes whole ≡ string_bytes text ++ (flat_map (F.stream_text problem.now) streams.now ++ flat_map (F.link_text problem.now) links.now)) }
+    ensures { IfOk result (λ whole. string_bytes whole ≡ string_bytes text ++ (flat_map (F.stream_text problem.now) streams.now ++ (flat_map (F.link_text problem.now) links.now ++ F.slack_text problem.now slack))) }
 {
     for share in streams {
         F::stream(&mut text, problem, share)?;
@@ -48,5 +56,6 @@ pub fn append_shares<F: Format>(
     for share in links {
         F::link(&mut text, problem, share)?;
     }
+    F::slack(&mut text, problem, slack)?;
     Ok(text)
 }

@@ -3,7 +3,7 @@ ghost use Rattle.std.specs.Prelude.{◌≡◌, ◌++◌, ◌<◌, IfOk, OnOk, fa
 ghost use Rattle.serde_json.specs.Data.{object};
 ghost use Rattle.serde_json.specs.View.{members_view, view};
 ghost use Rattle.serde_json.specs.Written.{has_float};
-ghost use Rattle.tsn_chart.specs.Json.{line_text, link_json, link_value, several_value, stream_json, stream_value, windows_value};
+ghost use Rattle.tsn_chart.specs.Json.{line_text, link_json, link_value, several_value, slack_json, slack_value, stream_json, stream_value, windows_value};
 
 use crate::format::Format;
 use crate::frames::sends_several;
@@ -15,13 +15,15 @@ use tsn_gate::json::{put_number, put_text};
 use tsn_gate::list::names;
 use tsn_timing::Problem;
 
-/// Lines of JSON: an object for each stream and each link.
+/// Lines of JSON: an object for each stream and each link, and one for the least slack.
 pub struct Json;
 
 impl Format for Json {
     ghost stream_text = { stream_json };
 
     ghost link_text = { link_json };
+
+    ghost slack_text = { λ problem slack. slack_json slack };
 
     fn stream(text: &mut String, problem: &Problem, share: &StreamShare) -> Result<(), AllocError> {
         if sends_several(problem) {
@@ -41,6 +43,11 @@ impl Format for Json {
             let value = link_value(*text.allocator(), problem, share)?;
             write_line(text, &value)
         }
+    }
+
+    fn slack(text: &mut String, _problem: &Problem, slack: u64) -> Result<(), AllocError> {
+        let value = slack_value(*text.allocator(), slack)?;
+        write_line(text, &value)
     }
 }
 
@@ -75,14 +82,15 @@ fn stream_members(
     put_number(&mut members, alloc, "arrival", share.arrival)?;
     put_number(&mut members, alloc, "latency", share.latency)?;
     put_number(&mut members, alloc, "offset", share.offset)?;
+    put_number(&mut members, alloc, "span", share.span)?;
     put_text(
         &mut members,
         alloc,
         "stream",
         problem.stream_name(share.stream),
     )?;
-    put_number(&mut members, alloc, "to_cycle", share.to_cycle)?;
     put_number(&mut members, alloc, "to_latest", share.to_latest)?;
+    put_number(&mut members, alloc, "to_period_end", share.to_period_end)?;
     Ok(members)
 }
 
@@ -119,8 +127,17 @@ fn link_members(
     put_number(&mut members, alloc, "longest_open", share.longest_open)?;
     put_number(&mut members, alloc, "open", share.open)?;
     put_number(&mut members, alloc, "scheduled", share.scheduled)?;
+    put_number(&mut members, alloc, "slack", share.slack)?;
     put_text(&mut members, alloc, "to", to)?;
     Ok(members)
+}
+
+fn slack_value(alloc: Global, slack: u64) -> Result<Value, AllocError>
+    ensures { IfOk result (λ value. view value ≡ slack_value slack) }
+{
+    let mut members = Map::new(alloc);
+    put_number(&mut members, alloc, "slack", slack)?;
+    Ok(Value::Object(members))
 }
 
 fn write_line(text: &mut String, value: &Value) -> Result<(), AllocError>

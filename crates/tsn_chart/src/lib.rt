@@ -22,7 +22,7 @@ mod table;
 pub mod words;
 
 pub use choice::LinkChoice;
-pub use link::{LinkShare, link_share, link_shares};
+pub use link::{LinkShare, least_slack, link_share, link_shares};
 pub use output::{to_csv, to_json, to_text};
 pub use picture::{Drawing, chart, chart_of, marked_chart};
 pub use rest::longest_open;

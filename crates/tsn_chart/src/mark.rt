@@ -1,5 +1,6 @@
 //! Frames that stand out.
 use crate::picture::Sheet;
+use tsn_model::Frame;
 
 /// How a frame's bar is drawn.
 #[derive(Clone, Copy)]
@@ -31,13 +32,13 @@ impl MarkStyle {
     }
 }
 
-/// How the bars of a stream's frames on a link are drawn.
-pub fn look_of(sheet: &Sheet<'_>, stream: usize, link: usize) -> MarkStyle {
+/// How the bar of a frame on a link is drawn.
+pub fn look_of(sheet: &Sheet<'_>, frame: Frame, link: usize) -> MarkStyle {
     if sheet.marked.is_empty() {
         return MarkStyle::Plain;
     }
-    for (marked_stream, marked_link) in sheet.marked {
-        if *marked_stream == stream && *marked_link == link {
+    for (marked, on) in sheet.marked {
+        if *marked == frame && *on == link {
             return MarkStyle::Outlined;
         }
     }

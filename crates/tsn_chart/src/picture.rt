@@ -11,7 +11,7 @@ use crate::rows::{Line, write_row};
 use crate::scale::Scale;
 use std::alloc::{AllocError, Global};
 use tsn_gate::GateList;
-use tsn_model::NoMemory;
+use tsn_model::{Frame, NoMemory};
 use tsn_timing::{Problem, Timing, Valid};
 
 /// What is drawn.
@@ -22,8 +22,8 @@ pub(crate) struct Sheet<'a> {
     pub(crate) offsets: &'a [u64],
     pub(crate) lists: &'a [GateList],
     pub(crate) shown: LinkChoice,
-    /// The stream and the link of the frames that are marked.
-    pub(crate) marked: &'a [(usize, usize)],
+    /// The frames that are marked, each with a link.
+    pub(crate) marked: &'a [(Frame, usize)],
     /// How many lists are shown.
     pub(crate) rows: usize,
     pub(crate) scale: Scale,
@@ -100,8 +100,8 @@ pub fn chart_of(
     marked_chart(alloc, problem, valid, lists, drawing, &[])
 }
 
-/// The picture as `chart_of` draws it, where some frames are marked, by the numbers of their stream and of a link of its route:
-/// they have a dark outline, and all others are pale. Of frames that aren't there nothing is drawn.
+/// The picture as `chart_of` draws it, where some frames are marked, each on a link of its route: they have a dark outline, and all
+/// others are pale. Of frames that aren't there nothing is drawn.
 ///
 /// # Errors
 ///
@@ -112,17 +112,17 @@ pub fn marked_chart(
     valid: &Valid,
     lists: &[GateList],
     drawing: Drawing,
-    marked: &[(usize, usize)],
+    marked: &[(Frame, usize)],
 ) -> Result<String, NoMemory>
     requires valid { IsValid problem.now.network valid.now }
     requires exist { All (λ list. list.link < length problem.now.network.links) lists.now }
 {
-    let timing = problem.timing(alloc)?;
-    let rows = rows_shown(&timing, lists, drawing.shown);
+    let timing = problem.timing();
+    let rows = rows_shown(timing, lists, drawing.shown);
     let scale = Scale::new(drawing.until.min(timing.cycle()), rows);
     let sheet = Sheet {
         problem,
-        timing: &timing,
+        timing,
         offsets: valid.offsets(),
         lists,
         shown: drawing.shown,

@@ -8,6 +8,7 @@ use crate::picture::Sheet;
 use crate::scale::{LEFT, PAGE};
 use crate::words::{letters_in, letters_on};
 use tsn_gate::{GateEntry, GateList};
+use tsn_model::Frame;
 
 // A bar that is narrower has an outline, in tenths of a pixel.
 const NARROW: u64 = 6;
@@ -26,11 +27,11 @@ pub struct Line {
     ghost low: { y ≤ 400000 },
 }
 
-// A stream's frames in a row, and how they are drawn.
+// A frame in a row, and how it is drawn.
 #[derive(Clone, Copy)]
 struct Framed {
     line: Line,
-    stream: usize,
+    frame: Frame,
     look: MarkStyle,
 }
 
@@ -61,9 +62,10 @@ fn write_bars(canvas: &mut Canvas, sheet: &Sheet<'_>, line: Line, is_marked: boo
 {
     let link = sheet.lists[line.number].link();
     for stream in 0..sheet.timing.streams() {
-        let look = look_of(sheet, stream, link);
-        if is_marked == (look == MarkStyle::Outlined) {
-            write_frames(canvas, sheet, Framed { line, stream, look });
+        for hop in 0..sheet.timing.hops(stream) {
+            if sheet.timing.route_link(stream, hop) == link {
+                write_frames(canvas, sheet, line, (stream, hop), is_marked);
+            }
         }
     }
 }
@@ -137,27 +139,37 @@ fn shade_of(octet: u8) -> &'static str {
     }
 }
 
-// Writes the bars of a stream's frames on a row's link.
-fn write_frames(canvas: &mut Canvas, sheet: &Sheet<'_>, framed: Framed)
-    requires line { framed.line.number < length sheet.now.lists.now }
-    requires stream { framed.stream < stream_count sheet.now.timing.now }
+// Writes the bars of the frames of a stream on a hop of it, those that are marked or the others.
+fn write_frames(
+    canvas: &mut Canvas,
+    sheet: &Sheet<'_>,
+    line: Line,
+    visit: (usize, usize),
+    is_marked: bool,
+)
+    requires stream { visit.0 < stream_count sheet.now.timing.now }
+    requires hop { visit.1 < hop_count sheet.now.timing.now visit.0 }
 {
-    let link = sheet.lists[framed.line.number].link();
-    for hop in 0..sheet.timing.hops(framed.stream) {
-        if sheet.timing.route_link(framed.stream, hop) == link {
-            for shift in sheet.timing.shifts(framed.stream) {
-                write_bar(canvas, sheet, framed, hop, *shift);
-            }
+    let (stream, hop) = visit;
+    let link = sheet.timing.route_link(stream, hop);
+    for shift in sheet.timing.shifts(stream) {
+        let frame = Frame {
+            stream,
+            shift: *shift,
+        };
+        let look = look_of(sheet, frame, link);
+        if is_marked == (look == MarkStyle::Outlined) {
+            write_bar(canvas, sheet, Framed { line, frame, look }, hop);
         }
     }
 }
 
-// Writes the bar of a stream's frame of a shift on a hop, unless it is past the picture.
-fn write_bar(canvas: &mut Canvas, sheet: &Sheet<'_>, framed: Framed, hop: usize, shift: u64)
-    requires stream { framed.stream < stream_count sheet.now.timing.now }
-    requires hop { hop < hop_count sheet.now.timing.now framed.stream }
+// Writes the bar of a frame on a hop, unless it is past the picture.
+fn write_bar(canvas: &mut Canvas, sheet: &Sheet<'_>, framed: Framed, hop: usize)
+    requires stream { framed.frame.stream < stream_count sheet.now.timing.now }
+    requires hop { hop < hop_count sheet.now.timing.now framed.frame.stream }
 {
-    let stream = framed.stream;
+    let Frame { stream, shift } = framed.frame;
     let begin = sheet.offsets[stream].saturating_add(shift);
     let start = begin.saturating_add(sheet.timing.start(stream, hop));
     let end = start.saturating_add(sheet.timing.occupancy(stream, hop));
@@ -184,18 +196,18 @@ fn write_bar_shape(canvas: &mut Canvas, sheet: &Sheet<'_>, bar: Bar) {
     canvas.words(framed.look.title());
     canvas.words("</title>");
     canvas.begin_rect(x, framed.line.y + 20, wide, high);
-    canvas.colour(framed.stream);
+    canvas.colour(framed.frame.stream);
     // A narrow bar is seen by an outline in the stream's colour.
     if wide < NARROW && framed.look != MarkStyle::Outlined {
         canvas.words("\" stroke-width=\"6\" stroke=\"");
-        canvas.colour(framed.stream);
+        canvas.colour(framed.frame.stream);
     }
     canvas.words(framed.look.shade());
 }
 
 // Writes a stream's name into its bar, where there is room for some of it.
 fn write_bar_name(canvas: &mut Canvas, sheet: &Sheet<'_>, bar: Bar)
-    requires stream { bar.framed.stream < stream_count sheet.now.timing.now }
+    requires stream { bar.framed.frame.stream < stream_count sheet.now.timing.now }
     requires x { bar.x ≤ 14_000 }
     requires wide { bar.wide ≤ 14_000 }
 {
@@ -203,7 +215,7 @@ fn write_bar_name(canvas: &mut Canvas, sheet: &Sheet<'_>, bar: Bar)
     if room < 3 {
         return;
     }
-    let stream = bar.framed.stream;
+    let stream = bar.framed.frame.stream;
     let letters = match bar.framed.look {
         MarkStyle::Pale => "#000000",
         MarkStyle::Plain | MarkStyle::Outlined => letters_on(stream),

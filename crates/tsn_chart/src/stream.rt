@@ -15,15 +15,17 @@ pub struct StreamShare {
     pub stream: usize,
     /// When its sender starts the first frame of each period, counted from the period's start.
     pub offset: u64,
-    /// How long its frames of a period are on the route: from its offset until the last one has arrived and its last link is
-    /// free again.
+    /// How long each of its frames is on its way: from its start at the sender until its last octet is at the receiver.
     pub latency: u64,
     /// When the last frame of a period has arrived, counted from the period's start.
     pub arrival: u64,
     /// What is left from then to its latest instant.
     pub to_latest: u64,
-    /// What is left of the period when its last link is free again.
-    pub to_cycle: u64,
+    /// How long its frames of a period take the route: from its offset until the last one has arrived and each link of its
+    /// route is free of it, the gap behind it included.
+    pub span: u64,
+    /// What is left of the period from then on.
+    pub to_period_end: u64,
     /// Its period.
     pub period: u64,
     /// How many frames it sends in each period.
@@ -31,7 +33,7 @@ pub struct StreamShare {
 }
 
 /// What a stream gets by a valid schedule.
-#[tactic(auto, unfolding(crate::specs::Shares::stream_share))]
+#[tactic(auto, unfolding(crate::specs::Shares::stream_share, tsn_model::specs::Timing::arrival))]
 pub fn stream_share(timing: &Timing, valid: &Valid, stream: usize) -> StreamShare
     requires stream { stream < stream_count timing.now }
     requires valid { IsValid timing.now valid.now }
@@ -39,15 +41,16 @@ pub fn stream_share(timing: &Timing, valid: &Valid, stream: usize) -> StreamShar
 {
     let period = timing.period(stream);
     let offset = valid.offsets()[stream];
-    let latency = timing.span(stream);
     let arrival = offset + timing.arrival(stream);
+    let span = timing.span(stream);
     StreamShare {
         stream,
         offset,
-        latency,
+        latency: timing.arrival(stream) - timing.spread(stream),
         arrival,
         to_latest: timing.latest(stream).saturating_sub(arrival),
-        to_cycle: period.saturating_sub(offset + latency),
+        span,
+        to_period_end: period.saturating_sub(offset + span),
         period,
         frames: timing.burst(stream),
     }

@@ -2,7 +2,7 @@
 ghost use Rattle.std.specs.Prelude.{◌≡◌, ◌++◌, ◌<◌, OnOk, length, string_bytes};
 ghost use Rattle.tsn_gate.specs.Table.{name_at};
 ghost use Rattle.tsn_model.specs.Network.{link_at};
-ghost use Rattle.tsn_chart.specs.Table.{link_end, link_head, link_line, stream_end, stream_line};
+ghost use Rattle.tsn_chart.specs.Table.{link_end, link_head, link_line, slack_line, stream_end, stream_line};
 
 use crate::format::Format;
 use crate::frames::sends_several;
@@ -13,7 +13,7 @@ use std::fmt::Write;
 use tsn_gate::list::names;
 use tsn_timing::Problem;
 
-/// A table: a line for each stream and each link.
+/// A table: a line for each stream and each link, and one for the least slack.
 pub struct Table;
 
 impl Format for Table {
@@ -21,14 +21,21 @@ impl Format for Table {
 
     ghost link_text = { link_line };
 
+    ghost slack_text = { λ problem slack. slack_line slack };
+
     #[tactic(auto, unfolding(crate::specs::Table::stream_numbers))]
     fn stream(text: &mut String, problem: &Problem, share: &StreamShare) -> Result<(), AllocError> {
         text.push_str("stream ")?;
         text.push_str(problem.stream_name(share.stream))?;
         write!(
             text,
-            " offset {} latency {} arrival {} to_latest {} to_cycle {}",
-            share.offset, share.latency, share.arrival, share.to_latest, share.to_cycle
+            " offset {} latency {} arrival {} to_latest {} span {} to_period_end {}",
+            share.offset,
+            share.latency,
+            share.arrival,
+            share.to_latest,
+            share.span,
+            share.to_period_end
         )?;
         end_stream(text, problem, share)
     }
@@ -38,10 +45,15 @@ impl Format for Table {
         begin_link(text, problem, share.link)?;
         write!(
             text,
-            " scheduled {} guard {} open {} longest_open {}",
-            share.scheduled, share.guard, share.open, share.longest_open
+            " scheduled {} guard {} open {} longest_open {} slack {}",
+            share.scheduled, share.guard, share.open, share.longest_open, share.slack
         )?;
         end_link(text, problem, share)
+    }
+
+    #[tactic(auto, unfolding(crate::specs::Table::slack_line))]
+    fn slack(text: &mut String, _problem: &Problem, slack: u64) -> Result<(), AllocError> {
+        write!(text, "slack {slack}\n")
     }
 }
 

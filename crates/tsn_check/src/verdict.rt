@@ -73,16 +73,16 @@ pub fn judge_tree(
     ensures fault { IfErr result (λ fault. (fault ≡ TreeFault.Memory)
         ⊎ IsWhy problem.now.network plan.now cert.now fault) }
 {
-    let timing = problem.timing(alloc)?;
-    judge_claim(&timing, plan)?;
-    let wanted = target_of(&timing, plan);
+    let timing = problem.timing();
+    judge_claim(timing, plan)?;
+    let wanted = target_of(timing, plan);
     let stated = cert.target;
     if stated != wanted {
         return Err(TreeFault::Target { stated, wanted });
     }
-    let conflicts = conflicts(alloc, &timing)?;
+    let conflicts = conflicts(alloc, timing)?;
     let claim = Claim {
-        timing: &timing,
+        timing,
         conflicts: &conflicts,
         target: wanted,
         plan,

@@ -6,8 +6,8 @@ use Rattle.tsn_outcome.specs.declared.answer.Answer.{Answer}
 use Rattle.tsn_outcome.specs.Outcome.{ComesOver, IsWrittenAs, TellsFailures, output_of}
 use Rattle.tsn_outcome.specs.Run.{Command, Failures, RunsOver, SinkRun, SourceRun}
 use Rattle.tsn_outcome.specs.Runs.{RunsTold}
-use Rattle.tsn_cli.specs.declared.showing.Shown.{Shown}
-use Rattle.tsn_cli.specs.declared.showing.Shown.TheVariants.{Text, Said}
+use Rattle.tsn_cli.specs.declared.shown.Shown.{Shown}
+use Rattle.tsn_cli.specs.declared.shown.Shown.TheVariants.{Text, Said}
 use Rattle.tsn_cli.specs.Shown.{IsSaid, IsShownBy, IsToldAs, shown_output}
 use Rattle.tsn_outcome.proofs.LineLemmas.{ends_as}
 use Rattle.tsn_outcome.proofs.RunLemmas.{TellsFaults, runs_with, tells_ok}

@@ -5,8 +5,17 @@ use Rattle.std.proofs.lemmas.List.Sums.{sum_by-cons}
 use Rattle.tsn_device.specs.declared.device.ReadFault.{ReadFault}
 use Rattle.tsn_device.specs.declared.device.ReadFault.TheVariants.{Broken, TooLong, Memory}
 use Rattle.tsn_outcome.specs.Run.{Answers, Command, Failures, GivesFile, GoesOn, IsUnread, NoneFailed, Output, SourceRun, failed_after, failed_before, readings_of, reads_of}
-use Rattle.tsn_outcome.specs.Outcome.{ComesFrom, ComesTo}
-use Rattle.tsn_cli.specs.Inputs.{IsReadOver}
+use Rattle.tsn_outcome.specs.Outcome.{ComesFrom, ComesTo, output_of}
+use Rattle.tsn_outcome.specs.declared.answer.Answer.{Answer}
+use Rattle.tsn_outcome.specs.Refusal.{RefusesNetwork, RefusesPlan}
+use Rattle.tsn_outcome.specs.Said.{status_of}
+use Rattle.tsn_net.specs.File.{States}
+use Rattle.tsn_timing.specs.Problem.{NamedNetwork}
+use Rattle.tsn_cert.specs.declared.plan.Plan.{Plan}
+use Rattle.tsn_cli.specs.declared.inputs.NetworkRead.TheVariants as of_network
+use Rattle.tsn_cli.specs.declared.inputs.PlanRead.TheVariants as of_plan
+use Rattle.tsn_cli.specs.declared.inputs.BothRead.TheVariants as of_both
+use Rattle.tsn_cli.specs.Inputs.{AreRead, IsReadOver, TakesNetwork, TakesPlan}
 use Rattle.tsn_outcome.proofs.RunLemmas.{TellsFaults, none_failed}
 
 -- sources that were left alone
@@ -95,3 +104,44 @@ pub ended : {A : Type 0} (output : Result A ReadFault → Output) (command : Com
 ended output command files Makes source tells goes_on answer (Ok shown) over =
     answered output command files Makes source [] none_left shown shown over (answer over.reads.0 shown over.reads.2)
 ended output command files Makes source tells goes_on answer (Err fault) over = unread output command files Makes source [] tells goes_on none_left fault over
+
+-- what was made of the files of a network and of a plan is what the run comes to, or goes on from
+module _ {A : Type 0} (output : Result A ReadFault → Output) (command : Command) (network plan : SourceRun) (rest : List SourceRun) (left : AreLeft rest) where
+  pub both_refused : (answer : Answer) (shown : A) → ((file : List ℕ) → RefusesNetwork file (output_of (Ok answer)) → command (file ∷ []) (output (Ok shown)))
+      → ((file other : List ℕ) (problem : NamedNetwork) → States file problem → RefusesPlan other (output_of (Ok answer))
+      → command (file ∷ other ∷ []) (output (Ok shown)))
+      → AreRead network plan (Ok (of_both.Refused answer)) → ComesFrom output command [] (network ∷ plan ∷ rest) (Ok shown)
+  both_refused answer shown first second (inl (over, alone)) =
+      answered output command [] TakesNetwork network (plan ∷ rest) (also_left plan rest alone.0 alone.1 left) (of_network.Refused answer) shown over
+      (first over.reads.0 over.reads.2)
+  both_refused answer shown first second (inr (problem, taken, over)) =
+      went_on output command [] TakesNetwork network (plan ∷ rest) (of_network.Taken problem) (Ok shown) taken
+      (answered output command (taken.reads.0 ∷ []) TakesPlan plan rest left (of_plan.Refused answer) shown over
+      (second taken.reads.0 over.reads.0 problem taken.reads.2 over.reads.2))
+
+  pub both_unread : TellsFaults output → GoesOn command [] → ((file : List ℕ) (problem : NamedNetwork) → States file problem → GoesOn command (file ∷ []))
+      → (fault : ReadFault) → AreRead network plan (Err fault) → ComesFrom output command [] (network ∷ plan ∷ rest) (Err fault)
+  both_unread tells first second fault (inl (over, alone)) =
+      unread output command [] TakesNetwork network (plan ∷ rest) tells first (also_left plan rest alone.0 alone.1 left) fault over
+  both_unread tells first second fault (inr (problem, taken, over)) =
+      went_on output command [] TakesNetwork network (plan ∷ rest) (of_network.Taken problem) (Err fault) taken
+      (unread output command (taken.reads.0 ∷ []) TakesPlan plan rest tells (second taken.reads.0 problem taken.reads.2) left fault over)
+
+  pub both_answered : (problem : NamedNetwork) (stated : Plan) (shown : A) (read : AreRead network plan (Ok (of_both.Taken problem stated)))
+      → command (read.0.reads.0 ∷ read.1.reads.0 ∷ []) (output (Ok shown)) → ComesFrom output command [] (network ∷ plan ∷ rest) (Ok shown)
+  both_answered problem stated shown read answer =
+      went_on output command [] TakesNetwork network (plan ∷ rest) (of_network.Taken problem) (Ok shown) read.0
+      (answered output command (read.0.reads.0 ∷ []) TakesPlan plan rest left (of_plan.Taken stated) shown read.1 answer)
+
+-- they were taken, and the run went on
+pub both_taken : {A : Type 0} (output : Result A ReadFault → Output) (command : Command) (network plan : SourceRun) (rest : List SourceRun)
+    (problem : NamedNetwork) (stated : Plan) (outcome : Result A ReadFault) (read : AreRead network plan (Ok (of_both.Taken problem stated)))
+    → ComesFrom output command (read.0.reads.0 ∷ read.1.reads.0 ∷ []) rest outcome → ComesFrom output command [] (network ∷ plan ∷ rest) outcome
+both_taken output command network plan rest problem stated outcome read then =
+    went_on output command [] TakesNetwork network (plan ∷ rest) (of_network.Taken problem) outcome read.0
+    (went_on output command (read.0.reads.0 ∷ []) TakesPlan plan rest (of_plan.Taken stated) outcome read.1 then)
+
+-- the file of one of them was refused
+pub refused_both : (network plan : SourceRun) (answer : Answer) → AreRead network plan (Ok (of_both.Refused answer)) → status_of answer.outcome ≡ 3
+refused_both network plan answer (inl (over, alone)) = over.reads.2.2.0
+refused_both network plan answer (inr (problem, taken, over)) = over.reads.2.2.0

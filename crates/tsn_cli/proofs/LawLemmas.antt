@@ -1,7 +1,8 @@
--- The laws: one network file has one plan file, and what `plan` and `prove` write is accepted by `check`.
-use Rattle.std.proofs.Common.{◌≡◌, ◌⊎◌, ◌≤◌, inl, inr, ℕ, List, [], ◌∷◌, true, None, Some, Ok, sym, ap, ◌∙◌, subst, arith, Bool, slice_get}
+-- The laws: what `plan` has written by its status, one network file has one plan file, and what `plan` and `prove` write is accepted by `check`.
+use Rattle.std.proofs.Common.{◌≡◌, ◌⊎◌, ◌≤◌, inl, inr, ℕ, List, [], ◌∷◌, true, false, Option, None, Some, is_some, Ok, sym, ap, ◌∙◌, subst, arith, Bool, slice_get}
 use Rattle.std.proofs.lemmas.Option.{same_Some}
 use Rattle.tsn_model.specs.Network.{Network, IsWellFormed}
+use Rattle.tsn_model.specs.Schedule.{HasNoSchedule}
 use Rattle.tsn_net.specs.File.{States}
 use Rattle.tsn_timing.specs.Problem.{NamedNetwork}
 use Rattle.tsn_cli.proofs.HeldFormed.{stated_formed}
@@ -26,12 +27,12 @@ use Rattle.tsn_answer.specs.Answer.{Shows, whole_verdict, IsReadAgain, IsWhole}
 use Rattle.tsn_outcome.specs.Run.{Output}
 use Rattle.tsn_outcome.specs.Outcome.{IsOutcome}
 use Rattle.tsn_cli.specs.Check.{CheckAnswers, accepted}
-use Rattle.tsn_cli.specs.Plan.{TellsPlan, TellsStop}
+use Rattle.tsn_cli.specs.Plan.{ShowsIfAny, TellsPlan, TellsStop, finished_output}
 use Rattle.tsn_cli.specs.RunOutput.{HasForm}
-use Rattle.tsn_cli.specs.Laws.{PlanFilesAreOne, PlannedIsAccepted, ProvedIsAccepted, proved_verdict}
+use Rattle.tsn_cli.specs.Laws.{IsText, PlanFilesAreOne, PlannedIsAccepted, PlannedIsFirst, ProvedIsAccepted, WritesProof, proved_verdict}
 use Rattle.tsn_cli.proofs.Accepting.{certificate_accepted}
 use Rattle.tsn_model.specs.Argument as model
-use Rattle.tsn_check.specs.declared.verdict.Verdict.TheVariants.{First}
+use Rattle.tsn_check.specs.declared.verdict.Verdict.TheVariants.{First, NoSchedule}
 use Rattle.tsn_cert.specs.declared.argument.Goal.{Goal}
 use Rattle.tsn_cert.specs.Argument.{argument_text}
 use Rattle.tsn_cert.specs.declared.certificate.Certificate.TheVariants as certificate
@@ -43,30 +44,76 @@ use Rattle.tsn_net.proofs.Stating.{stated_once}
 use Rattle.tsn_outcome.specs.declared.stop.Stop.{Stop}
 use Rattle.tsn_answer.proofs.Agreeing.{first_plan_once}
 
--- an output with status 0 tells of the first plan
-abbrev Tells : Network → Output → Type 0
-Tells network output = (first : Plan) × IsFirstPlan network first × (slice_get output.texts 0 ≡ Some (plan_text first))
+-- what a whole certificate shows
+verdict_two : (format : Format) (stated : Plan) → format ≡ Two → verdict_of format stated ≡ whole_verdict stated
+verdict_two format stated is = grind arith
 
-told_plan : (network : Network) (effort : Effort) (wanted : Bool) (output : Output) → TellsPlan network effort wanted output → output.status ≡ 0 → Tells network output
-told_plan network effort wanted output (plan.Schedule span offsets, (cert, (count, same, found, shows, inl (is, form)))) done =
-    (plan.Schedule span offsets, found, ap (λ (o : Output). slice_get o.texts 0) is)
-told_plan network effort wanted output (plan.None, (cert, (count, same, found, shows, inl (is, form)))) done =
-    absurd (omega (arith, rw is at done))
-told_plan network effort wanted output (stated, (None, (count, same, found, shows, inr cut))) done = absurd cut
-told_plan network effort wanted output (stated, (Some cert, (count, same, found, shows, inr cut))) done = absurd (omega (arith, rw cut.1 at done))
+verdict_by : (stated : Plan) (whole : Certificate) → IsWhole stated whole → certificate_verdict whole stated ≡ whole_verdict stated
+verdict_by stated (Tree cert) is = verdict_two cert.format stated is
+verdict_by stated (Argument argument) is = is
 
-told_first : (network : Network) (effort : Effort) (wanted : Bool) (output : Output)
-    → TellsPlan network effort wanted output ⊎ ((stop : Stop) × TellsStop network effort.limit stop output) → output.status ≡ 0 → Tells network output
-told_first network effort wanted output (inl tells) done = told_plan network effort wanted output tells done
-told_first network effort wanted output (inr (stop, (book, (known, stopped, of, is)))) done = absurd (omega (arith, rw is at done))
+-- the certificate that is wanted is written, and shows all that the plan says
+proof_by : (network : Network) (effort : Effort) (stated : Plan) (cert : Option Certificate) (count : ℕ) (wanted : Bool) (output : Output)
+    → is_some cert ≡ wanted → ShowsIfAny network effort stated cert count → output ≡ finished_output stated cert count
+    → WritesProof wanted (IsText output 1) network stated (whole_verdict stated)
+proof_by network effort stated cert count false output same shows is = tt
+proof_by network effort stated None count true output same shows is = absurd (cc)
+proof_by network effort stated (Some whole) count true output same shows is =
+    (whole, shows.0.certifies, verdict_by stated whole shows.0.whole, ap (λ (o : Output). slice_get o.texts 1) is)
+
+-- an output that tells of a plan, by its status
+abbrev TellsFirst : Network → Bool → Output → Type 0
+TellsFirst network wanted output =
+    (first : Plan) × IsFirstPlan network first × IsText output 0 (plan_text first) × WritesProof wanted (IsText output 1) network first First
+
+abbrev TellsNone : Network → Bool → Output → Type 0
+TellsNone network wanted output =
+    HasNoSchedule network × IsText output 0 (plan_text plan.None) × WritesProof wanted (IsText output 1) network plan.None NoSchedule
+
+module _ (network : Network) (effort : Effort) (wanted : Bool) (output : Output) where
+  told_plan : TellsPlan network effort wanted output → output.status ≡ 0 → TellsFirst network wanted output
+  told_plan (plan.Schedule span offsets, (cert, (count, same, found, shows, inl (is, form)))) done = (
+    plan.Schedule span offsets,
+    found,
+    ap (λ (o : Output). slice_get o.texts 0) is,
+    proof_by network effort (plan.Schedule span offsets) cert count wanted output same shows is,
+  )
+  told_plan (plan.None, (cert, (count, same, found, shows, inl (is, form)))) done = absurd (omega (arith, rw is at done))
+  told_plan (stated, (None, (count, same, found, shows, inr cut))) done = absurd cut
+  told_plan (stated, (Some cert, (count, same, found, shows, inr cut))) done = absurd (omega (arith, rw cut.1 at done))
+
+  told_none : TellsPlan network effort wanted output → output.status ≡ 4 → TellsNone network wanted output
+  told_none (plan.None, (cert, (count, same, found, shows, inl (is, form)))) done =
+      (found, ap (λ (o : Output). slice_get o.texts 0) is, proof_by network effort plan.None cert count wanted output same shows is)
+  told_none (plan.Schedule span offsets, (cert, (count, same, found, shows, inl (is, form)))) done = absurd (omega (arith, rw is at done))
+  told_none (stated, (None, (count, same, found, shows, inr cut))) done = absurd cut
+  told_none (stated, (Some cert, (count, same, found, shows, inr cut))) done = absurd (omega (arith, rw cut.1 at done))
+
+  told_first : TellsPlan network effort wanted output ⊎ ((stop : Stop) × TellsStop network effort.limit stop output) → output.status ≡ 0
+      → TellsFirst network wanted output
+  told_first (inl tells) done = told_plan tells done
+  told_first (inr (stop, (book, (known, stopped, of, is)))) done = absurd (omega (arith, rw is at done))
+
+  told_that_none : TellsPlan network effort wanted output ⊎ ((stop : Stop) × TellsStop network effort.limit stop output) → output.status ≡ 4
+      → TellsNone network wanted output
+  told_that_none (inl tells) done = told_none tells done
+  told_that_none (inr (stop, (book, (known, stopped, of, is)))) done = absurd (omega (arith, rw is at done))
+
+pub planned_first : PlannedIsFirst
+planned_first effort wanted file output (inl refused) =
+    (λ done. absurd (omega (arith, done, refused.2.0)), λ none. absurd (omega (arith, none, refused.2.0)))
+planned_first effort wanted file output (inr (problem, states, tells)) = (
+  λ done. let told = told_first problem.network effort wanted output tells done in (problem, (told.0, (states, told.1, told.2), told.3)),
+  λ none. let told = told_that_none problem.network effort wanted output tells none in (problem, (states, told.0, told.1), told.2),
+)
 
 pub plan_files_agree : PlanFilesAreOne
 plan_files_agree effort other_effort wanted other_wanted file output other (inl refused) second done other_done = absurd (omega (arith, done, refused.2.0))
 plan_files_agree effort other_effort wanted other_wanted file output other first (inl refused) done other_done = absurd (omega (arith, other_done, refused.2.0))
 plan_files_agree effort other_effort wanted other_wanted file output other (inr first) (inr second) done other_done =
     let same : second.0 ≡ first.0 = stated_once file second.0 first.0 second.1 first.1 in
-    let one : Tells first.0.network output = told_first first.0.network effort wanted output first.2 done in
-    let two : Tells first.0.network other = rw same at (told_first second.0.network other_effort other_wanted other second.2 other_done) in
+    let one : TellsFirst first.0.network wanted output = told_first first.0.network effort wanted output first.2 done in
+    let two : TellsFirst first.0.network other_wanted other = rw same at (told_first second.0.network other_effort other_wanted other second.2 other_done) in
     one.2 ∙ ap (λ p. Some (plan_text p)) (first_plan_once first.0.network one.0 two.0 one.1 two.1) ∙ sym two.2
 
 -- ---- what was planned
@@ -79,14 +126,6 @@ formed_by file problem states = subst (λ (p : NamedNetwork). IsWellFormed p.net
 right_by : (network : Network) (stated : Plan) (whole : Certificate) → Certifies network stated whole → IsPlanRight network stated
 right_by network stated (Tree cert) certifies = certifies.plan_right
 right_by network stated (Argument argument) certifies = certifies.plan_right
-
--- what a whole certificate shows
-verdict_two : (format : Format) (stated : Plan) → format ≡ Two → verdict_of format stated ≡ whole_verdict stated
-verdict_two format stated is = grind arith
-
-verdict_by : (stated : Plan) (whole : Certificate) → IsWhole stated whole → certificate_verdict whole stated ≡ whole_verdict stated
-verdict_by stated (Tree cert) is = verdict_two cert.format stated is
-verdict_by stated (Argument argument) is = is
 
 module _ (refutes : FirstFaultsRefute) (plans_fit : RightPlansFit) (trees_fit : CertifiedTreesFit) (plan_read : PlanTextIsRead)
     (cert_read : CertificateTextIsRead) (effort : Effort) (network_file plan_file cert_file : List ℕ) (output checked : Output)

@@ -5,6 +5,9 @@
 --     RunsProve                       over the files that are named, or with nothing written, where one can't be made
 use Rattle.std.specs.Prelude.{◌⊎◌, ℕ, List, Bool, Option, option_map}
 use Rattle.tsn_words.specs.declared.words.ProveWords.{ProveWords}
+use Rattle.tsn_device.specs.declared.device.Source.{Ghosts as SourceOf}
+use Rattle.tsn_device.specs.declared.device.Sink.{Ghosts as SinkOf}
+use Rattle.tsn_outcome.specs.declared.devices.Given.{Ghosts as GivenOf}
 use Rattle.tsn_outcome.specs.Run.{SinkRun, SourceRun}
 use Rattle.tsn_cli.specs.Prove.{ProveAnswers}
 use Rattle.tsn_outcome.specs.Runs.{OverCert, OverNetwork, OverPlan, RunsTold}
@@ -27,22 +30,21 @@ pub record Devices (S F : Type 0) : Type 1 where
   pub refuses_plan : Option (List ℕ) → Type 0
   pub refuses_cert : Option (List ℕ) → Type 0
 
-abbrev pub devices_of : {S F : Type 0} → (S → Option (List ℕ)) → (S → ℕ) → (S → Bool) → (List ℕ → S → Type 0) → (List ℕ → S → Type 0)
-    → (List ℕ → S → Type 0) → (F → Option (List ℕ)) → (F → ℕ) → (Option (List ℕ) → F → Type 0) → (Option (List ℕ) → F → Type 0)
-    → (Option (List ℕ) → Type 0) → (Option (List ℕ) → Type 0) → Devices S F
-devices_of given failed is_at_end opens_network opens_plan opens_cert taken spoilt makes_plan makes_cert refuses_plan refuses_cert = record {
-  given = given;
-  failed = failed;
-  is_at_end = is_at_end;
-  opens_network = opens_network;
-  opens_plan = opens_plan;
-  opens_cert = opens_cert;
-  taken = taken;
-  spoilt = spoilt;
-  makes_plan = makes_plan;
-  makes_cert = makes_cert;
-  refuses_plan = refuses_plan;
-  refuses_cert = refuses_cert;
+-- what a command is given: by the members of its sources, of its files, and of what gives them
+abbrev pub devices_of : {S F O G : Type 0} → SourceOf S → SinkOf F → GivenOf G S F O → G → Devices S F
+devices_of source file members given = record {
+  given = source.given;
+  failed = source.failed;
+  is_at_end = source.is_at_end;
+  opens_network = members.opens_network given;
+  opens_plan = members.opens_plan given;
+  opens_cert = members.opens_cert given;
+  taken = file.taken;
+  spoilt = file.failed;
+  makes_plan = members.makes_plan given;
+  makes_cert = members.makes_cert given;
+  refuses_plan = members.refuses_plan given;
+  refuses_cert = members.refuses_cert given;
 }
 
 -- it holds of a run over the network of a word; over that and the plan of one; over these and the certificate of one

@@ -6,7 +6,7 @@ use Rattle.tsn_timing.specs.Problem.{NamedNetwork}
 use Rattle.tsn_cert.specs.declared.plan.Plan.{Plan}
 use Rattle.tsn_cert.specs.declared.certificate.Certificate.{Certificate}
 use Rattle.tsn_chart.specs.declared.picture.Drawing.{Drawing}
-use Rattle.tsn_cli.specs.declared.table.Table.TheVariants.{Chart}
+use Rattle.tsn_cli.specs.declared.options.Table.TheVariants.{Chart}
 use Rattle.tsn_outcome.specs.Run.{Output, Command, IsLine}
 use Rattle.tsn_cli.specs.Check.{CertAnswersBy}
 use Rattle.tsn_cli.specs.Tables.{ShowsPlan, RejectsPlan}

@@ -1,8 +1,10 @@
 -- What a run made of the file of a source that it read.
 --     IsRead, IsReadOver           what was made of it, and how many reads failed
 --     TakesNetwork, TakesPlan      a file is taken or refused
-use Rattle.std.specs.Prelude.{◌≡◌, ℕ, List, [], ◌∷◌, Result, Ok, Err}
+--     IsLeft, AreRead              what was made of the files of a network and of a plan
+use Rattle.std.specs.Prelude.{◌≡◌, ◌⊎◌, ℕ, List, [], ◌∷◌, Result, Ok, Err}
 use Rattle.tsn_net.specs.File.{States}
+use Rattle.tsn_timing.specs.Problem.{NamedNetwork}
 use Rattle.tsn_cert.specs.Plan.{plan_in}
 use Rattle.tsn_device.specs.declared.device.ReadFault.{ReadFault}
 use Rattle.tsn_device.specs.declared.device.ReadFault.TheVariants.{TooLong}
@@ -10,7 +12,9 @@ use Rattle.tsn_cli.specs.declared.inputs.NetworkRead.{NetworkRead}
 use Rattle.tsn_cli.specs.declared.inputs.NetworkRead.TheVariants as of_network
 use Rattle.tsn_cli.specs.declared.inputs.PlanRead.{PlanRead}
 use Rattle.tsn_cli.specs.declared.inputs.PlanRead.TheVariants as of_plan
-use Rattle.tsn_outcome.specs.Run.{GivesFile, GivesTooMuch, Reading, SourceRun}
+use Rattle.tsn_cli.specs.declared.inputs.BothRead.{BothRead}
+use Rattle.tsn_cli.specs.declared.inputs.BothRead.TheVariants.{Taken, Refused}
+use Rattle.tsn_outcome.specs.Run.{GivesFile, GivesTooMuch, IsUnread, Reading, SourceRun}
 use Rattle.tsn_outcome.specs.Refusal.{RefusesNetwork, RefusesPlan}
 use Rattle.tsn_outcome.specs.Outcome.{TellsFailures, output_of}
 
@@ -34,3 +38,19 @@ TakesNetwork file (of_network.Refused answer) = RefusesNetwork file (output_of (
 abbrev pub TakesPlan : List ℕ → PlanRead → Type 0
 TakesPlan file (of_plan.Taken stated) = plan_in file ≡ Ok stated
 TakesPlan file (of_plan.Refused answer) = RefusesPlan file (output_of (Ok answer))
+
+-- a source that was left alone
+abbrev pub IsLeft : SourceRun → Type 0
+IsLeft source = IsUnread source.reading × (source.reads.after ≡ source.reads.before)
+
+-- what was made of the files of a network and of a plan: the plan's source is left alone where the network isn't taken
+abbrev pub AreRead : SourceRun → SourceRun → Result BothRead ReadFault → Type 0
+AreRead network plan (Ok (Taken problem stated)) =
+    IsReadOver TakesNetwork network (Ok (of_network.Taken problem)) × IsReadOver TakesPlan plan (Ok (of_plan.Taken stated))
+AreRead network plan (Ok (Refused answer)) =
+    (IsReadOver TakesNetwork network (Ok (of_network.Refused answer)) × IsLeft plan)
+    ⊎ ((problem : NamedNetwork) × IsReadOver TakesNetwork network (Ok (of_network.Taken problem))
+    × IsReadOver TakesPlan plan (Ok (of_plan.Refused answer)))
+AreRead network plan (Err fault) =
+    (IsReadOver TakesNetwork network (Err fault) × IsLeft plan)
+    ⊎ ((problem : NamedNetwork) × IsReadOver TakesNetwork network (Ok (of_network.Taken problem)) × IsReadOver TakesPlan plan (Err fault))

@@ -3,8 +3,8 @@ use Rattle.std.specs.Prelude.{◌≡◌, ℕ, Bool, Option, Some, None, if◌the
 use Rattle.tsn_words.specs.declared.words.GatesWords.{GatesWords}
 use Rattle.tsn_words.specs.declared.words.ReplayWords.{ReplayWords}
 use Rattle.tsn_words.specs.declared.words.ChartWords.{ChartWords}
-use Rattle.tsn_cli.specs.declared.table.GatesOptions.{GatesOptions}
-use Rattle.tsn_cli.specs.declared.table.ReplayOptions.{ReplayOptions}
+use Rattle.tsn_cli.specs.declared.options.GatesOptions.{GatesOptions}
+use Rattle.tsn_cli.specs.declared.options.ReplayOptions.{ReplayOptions}
 use Rattle.tsn_chart.specs.declared.picture.Drawing.{Drawing}
 use Rattle.tsn_chart.specs.declared.choice.LinkChoice.{LinkChoice}
 use Rattle.tsn_chart.specs.declared.choice.LinkChoice.TheVariants as shown

@@ -6,8 +6,8 @@ use Rattle.std.specs.Prelude.{◌≡◌, ◌⊎◌, ℕ, [], ◌∷◌, Bool, st
 use Rattle.tsn_net.specs.File.{States}
 use Rattle.tsn_timing.specs.Problem.{NamedNetwork}
 use Rattle.tsn_device.specs.declared.device.ReadFault.{ReadFault}
-use Rattle.tsn_cli.specs.declared.showing.Shown.{Shown}
-use Rattle.tsn_cli.specs.declared.showing.Shown.TheVariants.{Text, Said}
+use Rattle.tsn_cli.specs.declared.shown.Shown.{Shown}
+use Rattle.tsn_cli.specs.declared.shown.Shown.TheVariants.{Text, Said}
 use Rattle.tsn_outcome.specs.Run.{Command, Output, SinkRun}
 use Rattle.tsn_outcome.specs.Runs.{IsToldBy}
 use Rattle.tsn_outcome.specs.Outcome.{IsWrittenAs, output_of}

@@ -3,10 +3,11 @@
 --     ShowsLists, ShowsReplay, ShowsShares, ShowsTable      the table of a plan
 --     RejectsPlan                              a plan that has none
 --     TableAnswers, GatesAnswers, ReplayAnswers, ChartAnswers, StreamsAnswers    the answer to the files read so far
-use Rattle.std.specs.Prelude.{◌≡◌, ◌⊎◌, ℕ, ◌≤◌, List, [], ◌∷◌, Ok}
+use Rattle.std.specs.Prelude.{◌≡◌, ◌⊎◌, ◌↔◌, ℕ, ◌≤◌, List, [], ◌∷◌, Ok}
 use Rattle.tsn_model.specs.Network.{Network}
 use Rattle.tsn_model.specs.Schedule.{IsValid, flowspan}
 use Rattle.tsn_model.specs.Bridge.{LinkGates, BridgeRun, IsBridgeRun, IsFed}
+use Rattle.tsn_model.specs.Early.{Tolerates}
 use Rattle.tsn_net.specs.File.{States}
 use Rattle.tsn_timing.specs.Problem.{NamedNetwork}
 use Rattle.tsn_cert.specs.declared.plan.Plan.{Plan}
@@ -32,10 +33,10 @@ use Rattle.tsn_words.specs.declared.options.ReplayFormat.{ReplayFormat}
 use Rattle.tsn_words.specs.declared.options.ReplayFormat.TheVariants as replays
 use Rattle.tsn_words.specs.declared.options.StreamsFormat.{StreamsFormat}
 use Rattle.tsn_words.specs.declared.options.StreamsFormat.TheVariants as shares
-use Rattle.tsn_cli.specs.declared.table.GatesOptions.{GatesOptions}
-use Rattle.tsn_cli.specs.declared.table.ReplayOptions.{ReplayOptions}
-use Rattle.tsn_cli.specs.declared.table.Table.{Table}
-use Rattle.tsn_cli.specs.declared.table.Table.TheVariants.{Gates, Replay, Chart, Streams}
+use Rattle.tsn_cli.specs.declared.options.GatesOptions.{GatesOptions}
+use Rattle.tsn_cli.specs.declared.options.ReplayOptions.{ReplayOptions}
+use Rattle.tsn_cli.specs.declared.options.Table.{Table}
+use Rattle.tsn_cli.specs.declared.options.Table.TheVariants.{Gates, Replay, Chart, Streams}
 use Rattle.tsn_outcome.specs.Run.{Output, Command, IsLine}
 use Rattle.tsn_outcome.specs.declared.outcome.Outcome.TheVariants.{RefusedPlan}
 use Rattle.tsn_outcome.specs.Outcome.{IsOutcome}
@@ -50,11 +51,11 @@ abbrev pub rows_text : ReplayFormat → NamedNetwork → List Row → List ℕ
 rows_text replays.Table problem rows = replay.table_text problem rows
 rows_text replays.Csv problem rows = csv_text problem rows
 
--- the shares of the streams and links in a format
-abbrev pub shares_text : StreamsFormat → NamedNetwork → List StreamShare → List LinkShare → List ℕ
-shares_text shares.Table problem each links = streams.table_text problem each links
-shares_text shares.Json problem each links = streams_json.json_text problem each links
-shares_text shares.Csv problem each links = streams_csv.csv_text problem each links
+-- the shares of the streams and links, and the least slack, in a format
+abbrev pub shares_text : StreamsFormat → NamedNetwork → List StreamShare → List LinkShare → ℕ → List ℕ
+shares_text shares.Table problem each links slack = streams.table_text problem each links slack
+shares_text shares.Json problem each links slack = streams_json.json_text problem each links slack
+shares_text shares.Csv problem each links slack = streams_csv.csv_text problem each links slack
 
 -- the output is the text of the gate lists of the schedule: those that it asks for, or merged lists
 abbrev pub ShowsLists : GatesOptions → NamedNetwork → List ℕ → Output → Type 0
@@ -71,10 +72,12 @@ ShowsReplay options problem offsets output =
 abbrev pub ShowsPicture : Output → Type 0
 ShowsPicture output = (picture : List ℕ) × IsLine 0 picture output
 
--- the output is the text of what each stream gets by the schedule, and each link by the gates that it asks for
+-- the output is the text of what each stream gets by the schedule, and each link by the gates that it asks for, and of the greatest slack that all links tolerate
 abbrev pub ShowsShares : StreamsFormat → NamedNetwork → List ℕ → Output → Type 0
 ShowsShares format problem offsets output =
-    (links : List LinkShare) × AreSharesOfLinks problem.network offsets links × IsLine 0 (shares_text format problem (stream_shares problem.network offsets) links) output
+    (links : List LinkShare) × AreSharesOfLinks problem.network offsets links
+    × ((slack : ℕ) × ((n : ℕ) → Tolerates problem.network offsets (λ link. n) ↔ (n ≤ slack))
+    × IsLine 0 (shares_text format problem (stream_shares problem.network offsets) links slack) output)
 
 -- the output is what is asked for
 abbrev pub ShowsTable : Table → NamedNetwork → List ℕ → Output → Type 0

@@ -4,9 +4,10 @@ ghost use Rattle.tsn_outcome.specs.Run.{RunsOver, sink_over, source_over};
 ghost use Rattle.tsn_outcome.specs.Outcome.{IsOutcome, output_of};
 ghost use Rattle.tsn_cli.specs.Check.{CheckAnswers, IsAccepted, accepted};
 
-use crate::certified::{CertificateView, certified_shown};
-use crate::showing::{Shown, show};
+use crate::certificate_view::{CertificateView, certified_shown};
+use crate::shown::{Shown, show};
 use std::alloc::Global;
+use tsn_argue::Silent;
 use tsn_cert::{Certificate, Plan};
 use tsn_check::Verdict;
 use tsn_device::device::{Sink, Source};
@@ -49,12 +50,19 @@ impl CertificateView for VerdictLine {
 
     ghost is_line = { λ _. Unit {0} };
 
+    type Observer = Silent;
+
+    fn observer(&self, _alloc: Global, _certificate: &Certificate) -> Silent {
+        Silent
+    }
+
     fn view(
         &self,
         alloc: Global,
         claim: Claim<'_>,
         _certificate: &Certificate,
         verdict: Verdict,
+        _observer: Silent,
     ) -> Result<Shown, NoMemory> {
         Ok(Shown::Said(acceptance(alloc, verdict, claim.plan)?))
     }

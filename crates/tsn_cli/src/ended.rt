@@ -3,16 +3,20 @@ ghost use Rattle.std.specs.Prelude.{◌≡◌, ◌⊎◌, ◌<◌, ◌-◌, ◌^
 ghost use Rattle.tsn_outcome.specs.Run.{sink_over};
 ghost use Rattle.tsn_outcome.specs.Said.{status_of};
 ghost use Rattle.tsn_outcome.specs.Outcome.{IsOutputOf, IsWrittenAs, outcome_of};
+ghost use Rattle.tsn_outcome.specs.Runs.{IsToldBy};
 ghost use Rattle.tsn_outcome.specs.Stop.{stop_text};
 
+use crate::files::Files;
 use std::alloc::Global;
 use std::io::Eprint;
 use std::time::Clock;
 use tsn_branch::ProgressWriter;
 use tsn_device::device::{ReadFault, Sink};
-use tsn_outcome::reason::write_line;
+use tsn_outcome::json::tell_answer;
+use tsn_outcome::reason::{fault_of, write_line};
 use tsn_outcome::run::{DEVICE, respond};
-use tsn_outcome::{Answer, Made, Outcome, Stop, outcome_of};
+use tsn_outcome::told::Told;
+use tsn_outcome::{Answer, Given, Made, Outcome, Ran, Stop, outcome_of};
 
 /// How a run of `plan` ended: its status, and what is known where that is `STOPPED`.
 #[derive(Clone, Copy)]
@@ -53,15 +57,60 @@ pub fn stop_or(
     }
 }
 
-/// The line on a file of which a write failed, where there is the file and that ended a run with this fault.
-pub fn file_line<F: Made>(
+/// How a search ended, before that is told.
+pub struct SearchEnd<'a, C: Clock + Eprint> {
+    pub answer: Result<Answer, ReadFault>,
+    /// Why it is this answer, where that lies with what was read.
+    pub reason: Option<String>,
+    /// What writes a certificate where the limit was met and the flowspan is shown to be the least.
+    pub writer: &'a str,
+    /// Who told how far it had got.
+    pub progress: Option<ProgressWriter<'a, C>>,
+    /// Whether the line is to be one of JSON.
+    pub json: bool,
+}
+
+/// Takes back the files of a search, and tells how it ended: how far it got, and its line, or a line of JSON in its place.
+pub fn end_search<'a, C: Clock + Eprint, G: Given<'a>, W: Made>(
+    alloc: Global,
+    given: &mut G,
+    output: W,
+    files: Files<G::File, Option<G::File>>,
+    end: SearchEnd<'_, C>,
+) -> Ran<W>
+    requires { W.failed output ≡ 0 }
+    ensures { IsToldBy end.entry.json end.entry.answer (sink_over W.taken W.failed output result.output) result.status }
+{
+    let SearchEnd {
+        answer,
+        reason,
+        writer,
+        progress,
+        json,
+    } = end;
+    let stopped = reason.or(files_line(alloc, fault_of(&answer), &files));
+    let Files { plan, cert } = files;
+    given.close_plan(plan);
+    if let Some(cert) = cert {
+        given.close_cert(cert);
+    }
+    if let Some(progress) = progress {
+        progress.end();
+    }
+    let reason = stop_or(alloc, outcome_of(&answer).stop(), writer, stopped);
+    tell_answer(alloc, given, output, Told { answer, reason }, json)
+}
+
+// The line on a file of which a write failed, where that ended a run with this fault.
+fn files_line<P: Made, C: Made>(
     alloc: Global,
     fault: Option<ReadFault>,
-    file: &Option<F>,
+    files: &Files<P, Option<C>>,
 ) -> Option<String> {
-    match file {
-        Some(file) => write_line(alloc, fault, file.failure()),
-        None => None,
+    let of_plan = write_line(alloc, fault, files.plan.failure());
+    match &files.cert {
+        Some(cert) => of_plan.or(write_line(alloc, fault, cert.failure())),
+        None => of_plan,
     }
 }
 
@@ -75,12 +124,5 @@ pub fn progress_of<C: Clock + Eprint>(
         Some(ProgressWriter::new(console, workers))
     } else {
         None
-    }
-}
-
-/// Tells how far it has got in the end.
-pub fn end_progress<C: Clock + Eprint>(progress: Option<ProgressWriter<'_, C>>) {
-    if let Some(progress) = progress {
-        progress.end();
     }
 }

@@ -1,7 +1,7 @@
 //! What is read before a plan is dealt with: a network, and then the plan.
 ghost use Rattle.std.specs.Prelude.{◌≡◌, ◌<◌, ◌-◌, ◌^◌};
 ghost use Rattle.tsn_outcome.specs.Run.{source_over};
-ghost use Rattle.tsn_cli.specs.Inputs.{IsReadOver, TakesNetwork, TakesPlan};
+ghost use Rattle.tsn_cli.specs.Inputs.{AreRead, IsReadOver, TakesNetwork, TakesPlan};
 
 use std::alloc::Global;
 use tsn_cert::Plan;
@@ -24,6 +24,34 @@ pub enum NetworkRead {
 pub enum PlanRead {
     Taken(Plan),
     Refused(Answer),
+}
+
+/// A network and a plan for it, or the line on why the file of one of them is refused.
+#[derive(Drop)]
+pub enum BothRead {
+    Taken(Problem, Plan),
+    Refused(Answer),
+}
+
+/// Reads a network, and then, where it is taken, a plan.
+pub(crate) fn read_both<N: Source, P: Source>(
+    alloc: Global,
+    network: &mut N,
+    plan: &mut P,
+) -> Result<BothRead, ReadFault>
+    requires network_reads { N.failed network.old < 2 ^ 64 - 1 }
+    requires plan_reads { P.failed plan.old < 2 ^ 64 - 1 }
+    ensures { AreRead (source_over N.given N.failed N.is_at_end network.old network.new)
+        (source_over P.given P.failed P.is_at_end plan.old plan.new) result }
+{
+    match read_network(alloc, network)? {
+        NetworkRead::Taken(problem) => match read_plan(alloc, plan) {
+            Ok(PlanRead::Taken(stated)) => Ok(BothRead::Taken(problem, stated)),
+            Ok(PlanRead::Refused(answer)) => Ok(BothRead::Refused(answer)),
+            Err(fault) => Err(fault),
+        },
+        NetworkRead::Refused(answer) => Ok(BothRead::Refused(answer)),
+    }
 }
 
 /// Reads a network.

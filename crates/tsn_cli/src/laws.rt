@@ -1,10 +1,16 @@
 //! The laws of the commands that search. Each function does nothing but cite other laws: its contract is the law.
 
-ghost use Rattle.tsn_cli.specs.Laws.{PlanFilesAreOne, PlannedIsAccepted, ProvedIsAccepted};
+ghost use Rattle.tsn_cli.specs.Laws.{PlanFilesAreOne, PlannedIsAccepted, PlannedIsFirst, ProvedIsAccepted};
 
 use tsn_argue::laws::first_faults_refute;
 use tsn_check::laws::{certified_trees_fit, right_plans_fit};
 use tsn_codec::{certificate_text_is_read, plan_text_is_read};
+
+/// What `plan` answers to a network file with status 0 has for its plan the first optimal schedule of the network that the file states;
+/// with status 4 that network has no schedule. The certificate, where one is wanted, shows it.
+pub fn planned_is_first()
+    ensures { PlannedIsFirst }
+{}
 
 /// Two answers of `plan` to one network file that both end with status 0 have the same plan file, however they were
 /// searched for.

@@ -12,9 +12,9 @@ ghost use Rattle.tsn_chart.specs.declared.link.LinkShare.{LinkShare};
 ghost use Rattle.tsn_chart.specs.declared.stream.StreamShare.{StreamShare};
 ghost use Rattle.tsn_cli.specs.Tables.{CanShow, GatesAnswers, RejectsPlan, ReplayAnswers, ShowsLists, ShowsPicture, ShowsPlan, ShowsReplay, ShowsShares, ShowsTable, TableAnswers, rows_text, shares_text};
 
-use crate::inputs::{NetworkRead, PlanRead, read_network, read_plan};
-use crate::showing::{Shown, show};
-use crate::table::{GatesOptions, ReplayOptions, Table};
+use crate::inputs::{BothRead, read_both};
+use crate::options::{GatesOptions, ReplayOptions, Table};
+use crate::shown::{Shown, show};
 use crate::untaken::untaken;
 use std::alloc::Global;
 use tsn_cert::Plan;
@@ -22,7 +22,7 @@ use tsn_chart::{Drawing, Shares, marked_chart, plan_shares, to_csv, to_json, to_
 use tsn_check::{PlanFault, judge_plan};
 use tsn_device::device::{ReadFault, Sink, Source};
 use tsn_gate::{Background, ReplayFault, ReplayTable, gate_lists, lists_by, replay_rows, text_in};
-use tsn_model::NoMemory;
+use tsn_model::{Frame, NoMemory};
 use tsn_outcome::{Claim, line_on_plan, rejection};
 use tsn_timing::{Problem, Valid};
 use tsn_words::{ReplayFormat, StreamsFormat};
@@ -94,15 +94,12 @@ pub fn table_shown<N: Source, P: Source>(
         (source_over N.given N.failed N.is_at_end network.old network.new
         ∷ source_over P.given P.failed P.is_at_end plan.old plan.new ∷ []) result }
 {
-    match read_network(alloc, network)? {
-        NetworkRead::Taken(problem) => match read_plan(alloc, plan) {
-            Ok(PlanRead::Taken(stated)) => {
-                Ok(answer_to(alloc, problem, stated, plan.name(), table)?)
-            }
-            Ok(PlanRead::Refused(answer)) => Ok(Shown::Said(answer)),
-            Err(fault) => Err(fault),
-        },
-        NetworkRead::Refused(answer) => Ok(Shown::Said(answer)),
+    match read_both(alloc, network, plan) {
+        Ok(BothRead::Taken(problem, stated)) => {
+            Ok(answer_to(alloc, problem, stated, plan.name(), table)?)
+        }
+        Ok(BothRead::Refused(answer)) => Ok(Shown::Said(answer)),
+        Err(fault) => Err(fault),
     }
 }
 
@@ -129,21 +126,18 @@ fn answer_to(
     answer
 }
 
-/// What is said of a plan; in a picture of it some frames may be marked, each by its stream and its link.
+/// What is said of a plan; in a picture of it some frames may be marked, each on a link.
 pub fn plan_shown(
     alloc: Global,
     claim: Claim<'_>,
     table: Table,
-    marked: &[(usize, usize)],
+    marked: &[(Frame, usize)],
 ) -> Result<Shown, NoMemory>
     requires { CanShow table }
     ensures { IfOk result (λ a. ShowsPlan table claim.entry.problem.now claim.entry.plan.now (shown_output (Ok a))
         ⊎ RejectsPlan claim.entry.problem.now.network claim.entry.plan.now (shown_output (Ok a))) }
 {
-    let timing = claim.problem.timing(alloc)?;
-    let judged = judge_plan(alloc, &timing, claim.plan);
-    drop(timing);
-    match judged {
+    match judge_plan(alloc, claim.problem.timing(), claim.plan) {
         Ok(valid) => {
             let answer = table_of(alloc, claim.problem, &valid, table, marked);
             drop(valid);
@@ -166,7 +160,7 @@ fn table_of(
     problem: &Problem,
     valid: &Valid,
     table: Table,
-    marked: &[(usize, usize)],
+    marked: &[(Frame, usize)],
 ) -> Result<Shown, NoMemory>
     requires table { CanShow table }
     requires valid { IsValid problem.now.network valid.now }
@@ -248,7 +242,7 @@ fn picture(
     problem: &Problem,
     valid: &Valid,
     drawing: Drawing,
-    marked: &[(usize, usize)],
+    marked: &[(Frame, usize)],
 ) -> Result<Shown, NoMemory>
     requires valid { IsValid problem.now.network valid.now }
     ensures { IfOk result (λ a. ShowsPicture (shown_output (Ok a))) }
@@ -283,13 +277,14 @@ fn shares_text(
 ) -> Result<String, NoMemory>
     requires named { All (λ (share : StreamShare). share.stream < length problem.now.stream_names) shares.now.streams.items }
     requires exist { All (λ (share : LinkShare). share.link < length problem.now.network.links) shares.now.links.items }
-    ensures { IfOk result (λ text. string_bytes text ≡ shares_text format problem.now shares.now.streams.items shares.now.links.items) }
+    ensures { IfOk result (λ text. string_bytes text ≡ shares_text format problem.now shares.now.streams.items shares.now.links.items shares.now.slack) }
 {
     let streams = &shares.streams;
     let links = &shares.links;
+    let slack = shares.slack;
     match format {
-        StreamsFormat::Table => to_text(alloc, problem, streams, links),
-        StreamsFormat::Json => to_json(alloc, problem, streams, links),
-        StreamsFormat::Csv => to_csv(alloc, problem, streams, links),
+        StreamsFormat::Table => to_text(alloc, problem, streams, links, slack),
+        StreamsFormat::Json => to_json(alloc, problem, streams, links, slack),
+        StreamsFormat::Csv => to_csv(alloc, problem, streams, links, slack),
     }
 }

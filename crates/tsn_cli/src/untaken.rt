@@ -1,6 +1,6 @@
 //! What a device doesn't take of gate control lists, and which leave others no time.
 
-use crate::table::GatesOptions;
+use crate::options::GatesOptions;
 use std::alloc::Global;
 use tsn_gate::{GateList, closed_lines, device_lines};
 use tsn_model::NoMemory;

@@ -4,7 +4,7 @@ ghost use Rattle.tsn_outcome.specs.Run.{sink_over};
 ghost use Rattle.tsn_outcome.specs.Outcome.{outcome_of};
 ghost use Rattle.tsn_cli.specs.Unmade.{IsUnmade, IsUnmadeOutcome};
 
-use crate::judge::judge_answer;
+use crate::network::judge_answer;
 use std::alloc::Global;
 use std::io::ErrorKind;
 use tsn_device::Failure;

@@ -5,7 +5,7 @@ ghost use Rattle.tsn_outcome.specs.Outcome.{output_of};
 ghost use Rattle.tsn_cli.specs.Valid.{ValidAnswers, Accepts, Rejects};
 
 use crate::network::{NetworkView, network_shown};
-use crate::showing::{Shown, show};
+use crate::shown::{Shown, show};
 use std::alloc::Global;
 use tsn_device::device::{Sink, Source};
 use tsn_model::NoMemory;
@@ -41,15 +41,12 @@ impl NetworkView for Offsets<'_> {
     ghost is_line = { λ _. Unit {0} };
 
     fn view(&self, alloc: Global, problem: &Problem, name: &str) -> Result<Shown, NoMemory> {
-        let timing = problem.timing(alloc)?;
         let schedule = Schedule {
             problem,
-            timing: &timing,
+            timing: problem.timing(),
             offsets: self.0,
         };
-        let answer = judgement(alloc, schedule, name);
-        drop(timing);
-        Ok(Shown::Said(answer?))
+        Ok(Shown::Said(judgement(alloc, schedule, name)?))
     }
 }
 

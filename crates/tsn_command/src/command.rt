@@ -4,16 +4,18 @@ ghost use Rattle.tsn_outcome.specs.Run.{sink_over};
 ghost use Rattle.tsn_outcome.specs.Runs.{WithSome};
 ghost use Rattle.tsn_cli.specs.Devices.{devices_of};
 ghost use Rattle.tsn_command.specs.Asked.{RunsAsked};
+ghost use Rattle.tsn_command.specs.Laws.{RanAsSaid};
 
 use crate::explained::{Explanation, picture};
+use crate::laws::plan_run_is_first;
 use crate::planning::plan;
 use std::alloc::Global;
 use std::io::Eprint;
 use std::sync::Wait;
 use std::thread::Threads;
 use std::time::Clock;
+use tsn_cli::commands::{certified, network, table};
 use tsn_cli::options::{gates_options, replay_options};
-use tsn_cli::shown::{certified, network, table};
 use tsn_cli::{Offsets, Table, VerdictLine, prove};
 use tsn_outcome::{Given, Made, Ran};
 use tsn_words::{CheckWords, ExplainWords, Words};
@@ -27,12 +29,14 @@ pub fn run<'a, T: Threads + Wait + Sync, C: Clock + Eprint + Sync, G: Given<'a>>
     given: &mut G,
     words: Words<'a>,
 ) -> u8
-    ensures { WithSome (G.is_output given.old) (λ before. (G.Output.failed before ≡ 0) × WithSome (G.is_output given.new) (λ after.
-        RunsAsked (devices_of G.Source.given G.Source.failed G.Source.is_at_end
-        (G.opens_network given.old) (G.opens_plan given.old) (G.opens_cert given.old) G.File.taken G.File.failed
-        (G.makes_plan given.old) (G.makes_cert given.old) (G.refuses_plan given.old) (G.refuses_cert given.old)) words.entry
+    ensures runs { WithSome (G.is_output given.old) (λ before. (G.Output.failed before ≡ 0) × WithSome (G.is_output given.new) (λ after.
+        RunsAsked (devices_of G.Source.Source G.File.Sink G.Given given.old) words.entry
         (sink_over G.Output.taken G.Output.failed before after) result)) }
+
+    // What `plan` has read and written, where it says that it has found a plan, or that there is none.
+    ensures planned { RanAsSaid (devices_of G.Source.Source G.File.Sink G.Given given.old) words.entry result }
 {
+    plan_run_is_first(given);
     let output = given.output();
     let Ran { status, output } = run_to(rt, console, alloc, given, output, words);
     given.close_output(output);
@@ -49,9 +53,7 @@ pub fn run_to<'a, T: Threads + Wait + Sync, C: Clock + Eprint + Sync, G: Given<'
     words: Words<'a>,
 ) -> Ran<W>
     requires { W.failed output ≡ 0 }
-    ensures { RunsAsked (devices_of G.Source.given G.Source.failed G.Source.is_at_end
-        (G.opens_network given.old) (G.opens_plan given.old) (G.opens_cert given.old) G.File.taken G.File.failed
-        (G.makes_plan given.old) (G.makes_cert given.old) (G.refuses_plan given.old) (G.refuses_cert given.old)) words.entry
+    ensures { RunsAsked (devices_of G.Source.Source G.File.Sink G.Given given.old) words.entry
         (sink_over W.taken W.failed output result.output) result.status }
 {
     match words {

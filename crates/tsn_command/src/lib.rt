@@ -4,6 +4,7 @@
 
 mod command;
 mod explained;
+pub mod laws;
 mod plan;
 pub mod planning;
 

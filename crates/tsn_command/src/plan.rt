@@ -19,13 +19,8 @@ use tsn_outcome::Answer;
 use tsn_outcome::run::STOPPED;
 use tsn_worker::{Searched, search_by};
 
-/// Reads a network file and plans it by a method, with 1 to 16 workers and at most so many settlements, 1 to 1,000,000,000. It
-/// writes the plan, then its certificate, where there is a sink for it, then a line on what was found; or a line on why the file is
-/// refused. Where the limit is met it writes the best plan that is known, if there is one, and no certificate. The certificate is a tree
-/// (format 2), written a node at a time, or an argument (format 3), and the line tells its nodes or steps; where memory is refused
-/// for a node or for the argument, the line says that. The supervisor hears of each settlement. The answer is the status, and what is
-/// known where the limit was met: the flowspan of the plan that was written, if any, and what no valid schedule's flowspan is below.
-/// The memory of the search stays taken until the process ends.
+/// Does what `plan_answer` does, and writes the line. No command calls it: it is for users of the crate. The answer is the status, and what
+/// is known where the limit was met: the flowspan of the plan that was written, if any, and what no valid schedule's flowspan is below.
 pub fn plan_run<
     R: Threads + Wait + Sync,
     N: Source,
@@ -73,7 +68,12 @@ pub fn plan_run<
     }
 }
 
-/// Does what `plan_run` does, but for the line: what is said is answered, before it is written.
+/// Reads a network file and plans it by a method, with 1 to 16 workers and at most so many settlements, 1 to 1,000,000,000. It writes the
+/// plan, then its certificate, where there is a sink for it, and answers what was found, or why the file is refused, with a line that
+/// isn't written yet. Where the limit is met it writes the best plan that is known, if there is one, and no certificate; the answer then
+/// has that plan's flowspan, if any, and what no valid schedule's flowspan is below. The certificate is a tree (format 2), written a node
+/// at a time, or an argument (format 3), and the line tells its nodes or steps; where memory is refused for a node or for the argument,
+/// the answer says that. The supervisor hears of each settlement. The memory of the search stays taken until the process ends.
 pub fn plan_answer<R: Threads + Wait + Sync, N: Source, S: Supervisor + Sync, P: Sink, C: Sink>(
     rt: &R,
     alloc: Global,

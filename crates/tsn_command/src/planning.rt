@@ -14,13 +14,9 @@ use std::sync::Wait;
 use std::thread::Threads;
 use std::time::Clock;
 use tsn_answer::Effort;
-use tsn_cli::{
-    Files, Unwritten, end_progress, file_line, plan_files, progress_of, stop_or, unwritable,
-};
-use tsn_outcome::json::tell_answer;
-use tsn_outcome::reason::{fault_of, source_line, write_line};
-use tsn_outcome::told::Told;
-use tsn_outcome::{Given, Made, Ran, outcome_of};
+use tsn_cli::{Files, SearchEnd, Unwritten, end_search, plan_files, progress_of, unwritable};
+use tsn_outcome::reason::{fault_of, source_line};
+use tsn_outcome::{Given, Made, Ran};
 use tsn_words::PlanWords;
 
 /// Plans a network; the network `-` is standard input. Where the words ask for it, how far the plan has got is told at once, on a
@@ -34,9 +30,7 @@ pub fn plan<'a, T: Threads + Wait + Sync, C: Clock + Eprint + Sync, G: Given<'a>
     words: PlanWords<'a>,
 ) -> Ran<W>
     requires { W.failed output ≡ 0 }
-    ensures { RunsPlan (devices_of G.Source.given G.Source.failed G.Source.is_at_end
-        (G.opens_network given.old) (G.opens_plan given.old) (G.opens_cert given.old) G.File.taken G.File.failed
-        (G.makes_plan given.old) (G.makes_cert given.old) (G.refuses_plan given.old) (G.refuses_cert given.old)) words.entry
+    ensures { RunsPlan (devices_of G.Source.Source G.File.Sink G.Given given.old) words.entry
         (sink_over W.taken W.failed output result.output) result.status }
 {
     match plan_files(given, words) {
@@ -82,19 +76,16 @@ fn plan_to<'a, T: Threads + Wait + Sync, C: Clock + Eprint + Sync, G: Given<'a>,
         &mut plan,
         &mut cert,
     );
-    let fault = fault_of(&answer);
-    let stopped = source_line(alloc, fault, &network)
-        .or(write_line(alloc, fault, plan.failure()))
-        .or(file_line(alloc, fault, &cert));
+    let reason = source_line(alloc, fault_of(&answer), &network);
     drop(network);
-    given.close_plan(plan);
-    if let Some(cert) = cert {
-        given.close_cert(cert);
-    }
-    end_progress(progress);
-    let known = outcome_of(&answer).stop();
-    let reason = stop_or(alloc, known, "prove NET PLAN --cert FILE", stopped);
-    tell_answer(alloc, given, output, Told { answer, reason }, words.json)
+    let end = SearchEnd {
+        answer,
+        reason,
+        writer: "prove NET PLAN --cert FILE",
+        progress,
+        json: words.json,
+    };
+    end_search(alloc, given, output, Files { plan, cert }, end)
 }
 
 // How a plan is searched for.

@@ -1,6 +1,6 @@
 //! What an argument shows, in words.
 use crate::narrator::Narrator;
-use crate::needs::{Part, part_of};
+use crate::needs::Part;
 use crate::tree::MOST_TOLD;
 use crate::words::Grouped;
 use crate::writer::Writer;
@@ -10,9 +10,13 @@ use tsn_cert::{Argument, Goal, Plan};
 use tsn_check::CheckFault;
 
 impl Writer<'_> {
-    /// Writes why the argument's target is right.
-    pub fn push_argument(&mut self, plan: &Plan, argument: &Argument) -> Result<(), AllocError> {
-        let part = part_of(self.alloc, self.network.problem, plan, argument)?;
+    /// Writes why the argument's target is right, which this part of its moves shows.
+    pub fn push_argument(
+        &mut self,
+        plan: &Plan,
+        argument: &Argument,
+        part: Part,
+    ) -> Result<(), AllocError> {
         if part.steps.is_empty() {
             self.push_at_once();
         } else {
@@ -57,6 +61,7 @@ impl Writer<'_> {
         self.say(format_args!("{end}\n"))
     }
 
+    // Writes the steps of a part. They are checked once more for that: which moves are needed is known only behind the last of them.
     fn push_steps(
         &mut self,
         plan: &Plan,

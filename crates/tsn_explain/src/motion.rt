@@ -17,7 +17,7 @@ impl Mentions {
             Move::Use(_) => {}
             Move::Arrive(stream) => self.arrived.push(*stream),
             Move::Last(placing) | Move::First(placing) => {
-                self.add(placing.link, placing.frame.stream);
+                self.add_frame(placing.link, placing.frame);
                 self.add_frames(placing.link, placing.others.list())
             }
             Move::Pack(link, frames) => self.add_frames(*link, frames.list()),

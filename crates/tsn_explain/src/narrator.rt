@@ -6,7 +6,7 @@ use crate::needs::Part;
 use crate::words::{Frames, Grouped, joint};
 use crate::writer::Writer;
 use std::alloc::AllocError;
-use tsn_argue::{Listener, News, Shown, View};
+use tsn_argue::{News, Observer, Shown, View};
 use tsn_cert::{Argument, Clause, Fact, Goal, Move, Step};
 use tsn_model::Frame;
 use tsn_text::ListBuilder;
@@ -28,7 +28,7 @@ pub struct Narrator<'a, 'b> {
     pub said: Option<i128>,
 }
 
-impl Listener for Narrator<'_, '_> {
+impl Observer for Narrator<'_, '_> {
     ghost heard = { λ _. None };
 
     fn begin(&mut self, ground: &View<'_>, step: &Step) {

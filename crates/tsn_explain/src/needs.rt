@@ -4,9 +4,10 @@ ghost use Rattle.std.specs.Prelude.{None};
 
 use std::alloc::{AllocError, Global};
 use std::collections::{BTreeMap, BTreeSet};
-use tsn_argue::{Listener, News, Reader, Shown, Use, View, hear_argument, read_first, read_second};
-use tsn_cert::{Argument, Clause, Move, Plan, Step};
+use tsn_argue::{News, Observer, Reader, Shown, Use, View, hear_argument, read_first, read_second};
+use tsn_cert::{Certificate, Clause, Move, Plan, Step};
 use tsn_check::CheckFault;
+use tsn_model::NoMemory;
 use tsn_timing::Problem;
 
 // Where an argument shows a fact: the number of a step, and the place there: 0 for what it supposes, 1 and 2 for its first move, and
@@ -36,35 +37,9 @@ impl Part {
     }
 }
 
-/// The moves that show that no flowspan is below the target: the one after which that is known, and those that it needs.
-pub fn part_of(
-    alloc: Global,
-    problem: &Problem,
-    plan: &Plan,
-    argument: &Argument,
-) -> Result<Part, AllocError> {
-    let mut tracker = Tracker {
-        alloc,
-        target: argument.target as i128,
-        ground: BTreeMap::new(alloc),
-        view: BTreeMap::new(alloc),
-        clauses: 0,
-        now: (0, 0),
-        needs: Vec::new(alloc),
-        kept: None,
-        showing: None,
-        is_refused: false,
-    };
-    let heard = hear_argument(alloc, problem, plan, argument, &mut tracker);
-    if let Err(CheckFault::Memory) = heard {
-        return Err(AllocError);
-    }
-    tracker.into_part()
-}
-
-// Hears from where each part of the ground and of the view is, and what each move needs.
+/// Observes from where each part of the ground and of the view is, and what each move needs.
 #[derive(Drop)]
-struct Tracker {
+pub struct Tracker {
     alloc: Global,
     // The flowspan that the steps have to reach, or to be past what is possible.
     target: i128,
@@ -84,7 +59,7 @@ struct Tracker {
     is_refused: bool,
 }
 
-impl Listener for Tracker {
+impl Observer for Tracker {
     ghost heard = { λ _. None };
 
     fn begin(&mut self, ground: &View<'_>, step: &Step) {
@@ -144,6 +119,44 @@ impl Reader for Tracker {
 }
 
 impl Tracker {
+    /// What observed an argument of a plan, if that is accepted.
+    pub fn of(
+        alloc: Global,
+        problem: &Problem,
+        plan: &Plan,
+        certificate: &Certificate,
+    ) -> Result<Option<Tracker>, NoMemory> {
+        let mut tracker = Tracker::new(alloc, certificate);
+        let Certificate::Argument(argument) = certificate else {
+            return Ok(None);
+        };
+        match hear_argument(alloc, problem, plan, argument, &mut tracker) {
+            Ok(_) => Ok(Some(tracker)),
+            Err(CheckFault::Memory) => Err(NoMemory),
+            Err(_) => Ok(None),
+        }
+    }
+
+    /// Before the first step of an argument; of a tree it is told nothing.
+    pub fn new(alloc: Global, certificate: &Certificate) -> Tracker {
+        let target = match certificate {
+            Certificate::Argument(argument) => argument.target as i128,
+            Certificate::Tree(_) => 0,
+        };
+        Tracker {
+            alloc,
+            target,
+            ground: BTreeMap::new(alloc),
+            view: BTreeMap::new(alloc),
+            clauses: 0,
+            now: (0, 0),
+            needs: Vec::new(alloc),
+            kept: None,
+            showing: None,
+            is_refused: false,
+        }
+    }
+
     // The next fact of a move begins.
     fn go_on(&mut self) {
         self.now.1 = self.now.1.wrapping_add(1);
@@ -196,7 +209,8 @@ impl Tracker {
         }
     }
 
-    fn into_part(self) -> Result<Part, AllocError> {
+    /// The moves that show that no flowspan is below the target: the one after which that is known, and those that it needs.
+    pub fn into_part(self) -> Result<Part, AllocError> {
         if self.is_refused {
             return Err(AllocError);
         }

@@ -98,6 +98,31 @@ impl<'a> TimedNetwork<'a> {
         self.timing.cycle() as i128
     }
 
+    /// How long after its offset a stream sends each of its frames.
+    pub fn shifts(self, stream: usize) -> &'a [u64] {
+        if stream < self.timing.streams() {
+            self.timing.shifts(stream)
+        } else {
+            &[]
+        }
+    }
+
+    /// Whether a stream sends a frame so long after its offset.
+    pub fn sends(self, stream: usize, wanted: i128) -> bool {
+        self.shifts(stream)
+            .iter()
+            .any(|shift| *shift as i128 == wanted)
+    }
+
+    /// The last link of a stream's route.
+    pub fn last_link(self, stream: usize) -> Option<usize> {
+        if stream >= self.timing.streams() {
+            return None;
+        }
+        let last = self.timing.hops(stream) - 1;
+        Some(self.timing.route_link(stream, last))
+    }
+
     /// The last frame of a stream's first period.
     pub fn last_frame(self, stream: usize) -> Frame {
         let mut shift = 0;

@@ -7,7 +7,7 @@ use crate::path::Path;
 use crate::words::Grouped;
 use crate::writer::Writer;
 use std::alloc::{AllocError, Global};
-use tsn_cert::{Cert, Entries, Format, Leaf, LowerBound, Node};
+use tsn_cert::{Cert, Certificate, Entries, Format, Leaf, LowerBound, Node};
 
 /// The most nodes of a tree, or steps of an argument, that are told one by one.
 pub const MOST_TOLD: usize = 12;
@@ -38,7 +38,23 @@ fn kind_of(node: &Node) -> Option<usize> {
     }
 }
 
+/// Whether there are so many nodes that they aren't told one by one.
+pub fn is_large(certificate: &Certificate) -> bool {
+    match certificate {
+        Certificate::Tree(cert) => cert.nodes.list().len() > MOST_TOLD,
+        Certificate::Argument(_) => false,
+    }
+}
+
 impl Writer<'_> {
+    /// Writes how many nodes a tree has, in whose place an argument is told.
+    pub fn push_size(&mut self, cert: &Cert) {
+        let count = Grouped(cert.nodes.list().len() as i128);
+        self.say(format_args!(
+            "The certificate is a tree of {count} nodes. An argument as prove finds it shows the same.\n"
+        ))
+    }
+
     /// Writes why the target of a tree is right.
     pub fn push_tree(&mut self, cert: &Cert) -> Result<(), AllocError> {
         let nodes = cert.nodes.list();
@@ -54,10 +70,15 @@ impl Writer<'_> {
             self.push_links(nodes)?;
             self.push_tightest(nodes)?;
         }
+        self.push_first(cert);
+        Ok(())
+    }
+
+    /// Writes that the plan is the first of its flowspan, where a tree shows it.
+    pub fn push_first(&mut self, cert: &Cert) {
         if cert.format == Format::Two && cert.target as i128 <= self.network.cycle() {
             self.say("Of the schedules of this flowspan the plan is the first in list order.\n");
         }
-        Ok(())
     }
 
     // Writes how many leaves there are, and how many of each kind.

@@ -3,6 +3,7 @@ pub mod Entries
 pub mod Occupancies
 pub mod Sweeping
 pub mod Wanted
+pub mod PlannedStarts
 pub mod Merging
 pub mod Playing
 pub mod Links

@@ -118,11 +118,11 @@ fn replayed(
     }
     // The network is within its limits, and each stream has a name.
     let _limits = problem.cycle();
-    let timing = problem.timing(alloc)?;
+    let timing = problem.timing();
     let offsets = valid.offsets();
-    let starts = starts_by(alloc, &timing, offsets, lists, cycles, background, keeps)?;
+    let starts = starts_by(alloc, timing, offsets, lists, cycles, background, keeps)?;
     let _names = problem.streams();
-    let rows = rows_of(alloc, &timing, offsets, cycles, &starts)?;
+    let rows = rows_of(alloc, timing, offsets, cycles, &starts)?;
     Ok(Trace::new(starts, ReplayTable::new(rows)))
 }
 

@@ -32,8 +32,7 @@ pub fn gate_lists(
     ensures gates { IfOk result (λ lists. HasWantedGates problem.now.network valid.now lists.items) }
     ensures exist { IfOk result (λ lists. All (λ list. list.link < length problem.now.network.links) lists.items) }
 {
-    let timing = problem.timing(alloc)?;
-    Ok(lists_of(alloc, &timing, valid.offsets())?)
+    Ok(lists_of(alloc, problem.timing(), valid.offsets())?)
 }
 
 // The lists of all links that a stream uses.

@@ -1,4 +1,6 @@
 //! Shows that no schedule has a lesser flowspan than one that is known. Times are in nanoseconds.
+ghost use Rattle.std.specs.Prelude.{◌≤◌, ◌-◌};
+
 use crate::course::search_of;
 use crate::learning::{Budget, CourseNews, Hear, argue, within};
 use std::alloc::{AllocError, Global};
@@ -81,14 +83,21 @@ fn ask_on<H: Hear>(
 ) -> Result<Answered, AllocError> {
     for _ in 0..u64::MAX {
         hear.hear(news(search, flowspan));
-        let left = budget.conflicts.saturating_sub(search.pace.conflicts);
-        let answered = search.ask(left.min(ROUND))?;
+        let most = most_next(budget, search.pace.conflicts);
+        let answered = search.ask(most)?;
         if answered != Answered::Unknown || search.pace.is_used_up(budget.conflicts) {
             hear.hear(news(search, flowspan));
             return Ok(answered);
         }
     }
     Ok(Answered::Unknown)
+}
+
+// How many conflicts the next question may take, after so many: no more than are left.
+fn most_next(budget: Budget, conflicts: u64) -> u64
+    ensures { result ≤ budget.conflicts - conflicts }
+{
+    budget.conflicts.saturating_sub(conflicts).min(ROUND)
 }
 
 fn news(search: &Search, flowspan: i64) -> CourseNews {

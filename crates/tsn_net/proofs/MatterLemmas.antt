@@ -1,20 +1,25 @@
 -- What a test finds, and whether it finds something.
-use Rattle.std.proofs.Common.{◌≡◌, ℕ, zero, suc, ◌+◌, ◌<◌, Bool, true, false, not, ◌||◌, ◌&&◌, List, [], ◌∷◌, map, take, drop, length, get_or, Option, Some, None, option_map, String, Vec, BTreeMap, Global, string_bytes, refl, ap, sym, ◌∙◌, subst, arith}
-use Rattle.std.specs.Prelude.{is_some, is_none, cond}
-use Rattle.std.specs.List.{list_any, list_all, find}
-use Rattle.std.specs.Option.{option_or}
+use Rattle.std.proofs.Common.{◌≡◌, ℕ, ◌+◌, Bool, true, false, not, ◌||◌, ◌&&◌, List, [], ◌∷◌, map, take, position, Option, Some, None, option_map, String, BTreeMap, Global, string_bytes, refl, ap, sym, ◌∙◌}
+use Rattle.std.specs.Prelude.{is_some, is_none, cond, IfSome}
+use Rattle.std.specs.List.{list_any, list_all, find, position_from}
 use Rattle.std.specs.BTreeMap.{keys}
-use Rattle.std.proofs.lemmas.List.{at_drop_more, get_or-map, get_or-take, length-map}
-use Rattle.std.proofs.lemmas.List.Folds.{list_any_at}
+use Rattle.std.proofs.lemmas.Iterator.Adapters.{position_from-zero}
 use Rattle.toml.specs.Data.{Data, get, as_table}
 use Rattle.toml.specs.View.{view, members_view, table_view}
 use Rattle.toml.specs.declared.value.Value.{Value}
-use Rattle.tsn_net.specs.declared.matter.Matter.{Matter}
 use Rattle.std.specs.Str.{bytes_eq}
 use Rattle.tsn_net.specs.declared.schema.Key.{Key}
+use Rattle.tsn_net.specs.declared.schema.Key.TheVariants as key
 use Rattle.tsn_net.specs.declared.schema.Table.{Table}
+use Rattle.tsn_net.specs.declared.schema.Table.TheVariants as tables
 use Rattle.tsn_net.specs.Schema.{name_of, required, known, is_table, holds_at, has_kind, member_keys, keys_in, misses_key, has_wrong_kind, has_unknown_key}
-use Rattle.tsn_net.specs.Matter.{absent_key, amiss_key, other_key, FindsIn, FindsNumber}
+use Rattle.tsn_net.specs.Document.{Document, text_at, table_at, value_at}
+use Rattle.tsn_net.specs.declared.fault.Code.TheVariants.{Limit}
+use Rattle.tsn_net.specs.declared.fault.Place.{Place}
+use Rattle.tsn_net.specs.declared.matter.Matter.{Matter}
+use Rattle.tsn_net.specs.declared.matter.Matter.TheVariants as matter
+use Rattle.tsn_net.specs.Conditions.{is_name, has_name, joins, route_of, node_breaks_limit, cable_breaks_limit, stream_breaks_limit, route_breaks_limit}
+use Rattle.tsn_net.specs.Matter.{absent_key, amiss_key, other_key, is_in_range, breaks_key_limit, matter_code, IsOfTable, IsMatter}
 use Rattle.tsn_net.proofs.DocumentLemmas.{keys_in-table, take-view}
 
 cases_found : {A : Type 0} (b : Bool) (x : A) (rest : Option A) (any : Bool) → is_some rest ≡ any → is_some (cond b (Some x) rest) ≡ (b || any)
@@ -44,22 +49,31 @@ pub find-map : {A B : Type 0} (p : B → Bool) (f : A → B) (xs : List A) → f
 find-map p f [] = refl
 find-map p f (x ∷ xs) = cases_map (p (f x)) f x (find p (map f xs)) (find (λ y. p (f y)) xs) (find-map p f xs)
 
--- the element at i passes
-pub found_at : {A B : Type 0} (p : B → Bool) (f : A → B) (xs : List A) (i : ℕ) (x : A) (d : B) → i < length xs → x ≡ get_or xs i x → p (f x) ≡ true
-    → FindsNumber d p (map f xs) (Some i)
-found_at p f xs i x d h is passes =
-    let at : get_or (map f xs) i d ≡ f x = get_or-map f xs i x d h ∙ ap f (sym is) in
-    let within : i < length (map f xs) = rw (length-map xs f) h in
-    let so : p (get_or (map f xs) i d) ≡ true = ap p at ∙ passes in
-    (sym (list_any_at p (map f xs) i d within so), (within, so))
+from_any : {A : Type 0} (p : A → Bool) (xs : List A) (i : ℕ) → is_some (position_from p i xs) ≡ list_any p xs
+from_any p [] i = refl
+from_any p (x ∷ xs) i = cases_found (p x) i (position_from p (i + 1) xs) (list_any p xs) (from_any p xs (i + 1))
 
--- the element at i fails
-pub failed_at : {A B : Type 0} (p : B → Bool) (f : A → B) (xs : List A) (i : ℕ) (x : A) (d : B) → i < length xs → x ≡ get_or xs i x → p (f x) ≡ false
-    → list_any p (drop i (map f xs)) ≡ list_any p (drop (i + 1) (map f xs))
-failed_at p f xs i x d h is fails =
-    let at : get_or (map f xs) i d ≡ f x = get_or-map f xs i x d h ∙ ap f (sym is) in
-    let within : i < length (map f xs) = rw (length-map xs f) h in
-    at_drop_more (list_any p) (map f xs) i d within ∙ ap (λ b. b || list_any p (drop (i + 1) (map f xs))) (ap p at ∙ fails)
+-- there is a first index where an element passes
+pub position_any : {A : Type 0} (p : A → Bool) (xs : List A) → is_some (position p xs) ≡ list_any p xs
+position_any p xs = ap is_some (position_from-zero p xs) ∙ from_any p xs 0
+
+from_amiss : {A : Type 0} (p : A → Bool) (xs : List A) (i : ℕ) → is_some (position_from (λ x. not (p x)) i xs) ≡ not (list_all p xs)
+from_amiss p [] i = refl
+from_amiss p (x ∷ xs) i = cases_amiss (p x) i (position_from (λ y. not (p y)) (i + 1) xs) (list_all p xs) (from_amiss p xs (i + 1))
+
+-- there is a first index of one that fails where not all pass
+pub position_amiss : {A : Type 0} (p : A → Bool) (xs : List A) → is_some (position (λ x. not (p x)) xs) ≡ not (list_all p xs)
+position_amiss p xs = ap is_some (position_from-zero (λ x. not (p x)) xs) ∙ from_amiss p xs 0
+
+pub none_of : {A : Type 0} (x : Option A) → is_some x ≡ false → x ≡ None
+none_of None h = refl
+none_of (Some a) h = cc
+
+-- neither of two is there
+pub neither : {A B : Type 0} (x : Option A) (y : Option B) → (is_some x || is_some y) ≡ false → (x ≡ None) × (y ≡ None)
+neither None None h = (refl, refl)
+neither None (Some b) h = cc
+neither (Some a) y h = cc
 
 member_keys-view : (es : List (String Global × Value)) → member_keys (members_view es) ≡ map string_bytes (map (λ e. e.0) es)
 member_keys-view [] = refl
@@ -69,12 +83,44 @@ member_keys-view (e ∷ es) = ap (λ ks. string_bytes e.0 ∷ ks) (member_keys-v
 pub keys_in-view : (d : Data) (m : BTreeMap (String Global) Value) → Some (table_view m) ≡ as_table d → keys_in d ≡ map string_bytes (keys m)
 keys_in-view d m h = keys_in-table d (table_view m) h ∙ member_keys-view m.entries
 
--- the first of two, where either may break a limit
-pub finds_either : (b c : Bool) (d : Data) (x y : Option Matter) → FindsIn b d x → FindsIn c d y → FindsIn (b || c) d (option_or x y)
-finds_either true c d (Some m) y f g = (refl, f.1)
-finds_either false c d (Some m) y f g = cc
-finds_either true c d None y f g = cc
-finds_either false c d None y f g = g
+two_keys : {K : Type 0} (a b : Bool) (j k : K) → (is_some (cond a (Some j) None) || is_some (cond b (Some k) None)) ≡ (a || b)
+two_keys true b j k = refl
+two_keys false true j k = refl
+two_keys false false j k = refl
+
+three_keys : {K : Type 0} (a b c : Bool) (i j k : K) → (is_some (cond a (Some i) (cond b (Some j) None)) || is_some (cond c (Some k) None))
+    ≡ ((a || b) || c)
+three_keys true b c i j k = refl
+three_keys false true c i j k = refl
+three_keys false false true i j k = refl
+three_keys false false false i j k = refl
+
+stream_keys : {K : Type 0} (a b c d e f g : Bool) (h i j k l m n : K)
+    → (is_some (cond a (Some h) None)
+    || is_some (cond b (Some i) (cond c (Some j) (cond d (Some k) (cond e (Some l) (cond f (Some m) (cond g (Some n) None)))))))
+    ≡ ((((((a || b) || c) || d) || e) || f) || g)
+stream_keys true b c d e f g h i j k l m n = refl
+stream_keys false true c d e f g h i j k l m n = refl
+stream_keys false false true d e f g h i j k l m n = refl
+stream_keys false false false true e f g h i j k l m n = refl
+stream_keys false false false false true f g h i j k l m n = refl
+stream_keys false false false false false true g h i j k l m n = refl
+stream_keys false false false false false false true h i j k l m n = refl
+stream_keys false false false false false false false h i j k l m n = refl
+
+-- a table breaks a limit where a name or a number at a key of it does
+pub node-breaks : (d : Data) → breaks_key_limit tables.Node d ≡ node_breaks_limit d
+node-breaks d = two_keys (not (is_name (text_at key.Name d))) (not (is_in_range key.Proc d)) key.Name key.Proc
+
+pub cable-breaks : (d : Data) → breaks_key_limit tables.Cable d ≡ cable_breaks_limit d
+cable-breaks d = three_keys (not (is_name (text_at key.A d))) (not (is_name (text_at key.B d))) (not (is_in_range key.Prop d)) key.A key.B key.Prop
+
+pub stream-breaks : (d : Data) → (breaks_key_limit tables.Stream d || route_breaks_limit (route_of d)) ≡ stream_breaks_limit d
+stream-breaks d =
+    let out : Key → Bool = λ k. not (is_in_range k d) in
+    ap (λ b. b || route_breaks_limit (route_of d))
+    (stream_keys (not (is_name (text_at key.Name d))) (out key.Octets) (out key.Release) (out key.Latest) (out key.Period) (out key.Frames) (out key.Offset)
+    key.Name key.Octets key.Release key.Latest key.Period key.Frames key.Offset)
 
 -- what misses a key, has one with a value of another kind, or one that isn't written
 pub missing-found : (t : Table) (d : Data) (r : Option Key) → is_table d ≡ true → absent_key t d ≡ r → is_some r ≡ misses_key t d
@@ -86,17 +132,35 @@ amiss-found t d r is found = sym (ap is_some found) ∙ found_any (λ k. holds_a
 pub other-found : (t : Table) (d : Data) (r : Option (List ℕ)) → r ≡ other_key t d → is_some r ≡ has_unknown_key t d
 other-found t d r found = ap is_some found ∙ found_any (λ name. not (list_any (λ k. bytes_eq (name_of k) name) (known t d))) (keys_in d)
 
-less_taken : {A : Type 0} (k : ℕ) (xs : List A) (n : ℕ) → n < length (take k xs) → n < k
-less_taken zero xs n h = absurd (omega arith)
-less_taken (suc k) [] n h = absurd (omega arith)
-less_taken (suc k) (x ∷ xs) zero h = omega arith
-less_taken (suc k) (x ∷ xs) (suc n) h = let low = less_taken k xs n (omega arith) in omega arith
+-- the first of the tables before one that has its name
+pub named_before : (vs : List Value) (i : ℕ) (name other : List ℕ) (r : Option ℕ)
+    → r ≡ position (λ t. bytes_eq name (text_at key.Name t)) (map view (take i vs))
+    → name ≡ other
+    → (position (λ t. bytes_eq other (text_at key.Name t)) (take i (map view vs)) ≡ r) × (is_some r ≡ has_name (take i (map view vs)) other)
+named_before vs i name other r found same =
+    let P : List Data → List ℕ → Option ℕ = λ ts n. position (λ t. bytes_eq n (text_at key.Name t)) ts in
+    let at : P (take i (map view vs)) other ≡ r = sym (found ∙ ap (λ ts. P ts name) (take-view i vs) ∙ ap (P (take i (map view vs))) same) in
+    (at, sym (ap is_some at) ∙ position_any (λ t. bytes_eq other (text_at key.Name t)) (take i (map view vs)))
 
--- an element before the k-th passes
-pub before_at : (p : Data → Bool) (vs : List Value) (k n : ℕ) (d : Data) → FindsNumber d p (map view (take k vs)) (Some n)
-    → (n < k) × (p (get_or (map view vs) n d) ≡ true)
-before_at p vs k n d f =
-    let within : n < length (take k (map view vs)) = subst (λ xs. n < length xs) (take-view k vs) f.1.0 in
-    let passes : p (get_or (take k (map view vs)) n d) ≡ true = subst (λ xs. p (get_or xs n d) ≡ true) (take-view k vs) f.1.1 in
-    let low : n < k = less_taken k (map view vs) n within in
-    (low, ap p (sym (get_or-take k (map view vs) n d low)) ∙ passes)
+-- the first of the cables before one that joins its nodes
+pub joined_before : (vs : List Value) (i : ℕ) (a b x y : List ℕ) (r : Option ℕ)
+    → r ≡ position (joins a b) (map view (take i vs)) → a ≡ x → b ≡ y
+    → (position (joins x y) (take i (map view vs)) ≡ r) × (is_some r ≡ list_any (joins x y) (take i (map view vs)))
+joined_before vs i a b x y r found first second =
+    let P : List Data → List ℕ → List ℕ → Option ℕ = λ ts m n. position (joins m n) ts in
+    let at : P (take i (map view vs)) x y ≡ r =
+    sym (found ∙ ap (λ ts. P ts a b) (take-view i vs) ∙ ap (λ m. P (take i (map view vs)) m b) first ∙ ap (P (take i (map view vs)) x) second) in
+    (at, sym (ap is_some at) ∙ position_any (joins x y) (take i (map view vs)))
+
+of_table : (d : Document) (p : Place) (m : Matter) → IsOfTable (table_at p) (value_at d p) m → IsMatter d p m
+of_table d p (matter.NoName k text) h = h
+of_table d p (matter.OutOfRange k number) h = h
+of_table d p (matter.LongRoute count) h = h
+of_table d p (matter.NoRouteName text) h = h
+of_table d p _ h = absurd h
+
+-- what breaks a limit of a table is the matter at its place
+pub limited : (d : Document) (p : Place) (r : Option Matter) → IfSome r (λ m. (matter_code m ≡ Limit) × IsOfTable (table_at p) (value_at d p) m)
+    → IfSome r (λ m. (matter_code m ≡ Limit) × IsMatter d p m)
+limited d p None h = tt
+limited d p (Some m) h = (h.0, of_table d p m h.1)

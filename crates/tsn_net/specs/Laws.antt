@@ -1,13 +1,17 @@
 -- Which fault a document has, in words: the least condition that holds anywhere, at the first place where it holds; that
--- a file states one problem alone; and that streams keep the offsets that a file says.
-use Rattle.std.specs.Prelude.{◌≡◌, ◌<◌, ◌⊎◌, ◌↔◌, ℕ, List, true, false, Some, None, length}
+-- what is told of it is one thing alone, as is the problem that a file states; and that streams keep the offsets that a file says.
+use Rattle.std.specs.Prelude.{◌≡◌, ◌<◌, ◌⊎◌, ◌↔◌, ℕ, List, true, false, Some, None, length, option_map}
 use Rattle.tsn_net.specs.declared.fault.Place.{Place}
 use Rattle.tsn_net.specs.declared.fault.Place.TheVariants.{Text, Top, Node, Cable, Stream}
 use Rattle.tsn_net.specs.declared.fault.Code.{Code}
 use Rattle.tsn_net.specs.declared.fault.NetFault.{NetFault}
+use Rattle.tsn_net.specs.declared.matter.Matter.{Matter}
+use Rattle.tsn_net.specs.declared.matter.Matter.TheVariants as matter
+use Rattle.tsn_net.specs.declared.conditions.Amiss.{Amiss}
 use Rattle.tsn_net.specs.Document.{Document}
 use Rattle.tsn_net.specs.Conditions.{holds, fault_of}
 use Rattle.tsn_net.specs.Fault.{code_number}
+use Rattle.tsn_net.specs.Matter.{FindsFault}
 use Rattle.tsn_net.specs.File.{States}
 use Rattle.tsn_model.specs.Schedule.{IsValid}
 use Rattle.tsn_model.specs.Held.{HasOffsets}
@@ -56,6 +60,37 @@ FaultsAreFirst = (d : Document) (fault : NetFault) → (fault_of d ≡ Some faul
 -- a document has no fault exactly where no condition holds at any place
 abbrev pub FaultlessIsClear : Type 0
 FaultlessIsClear = (d : Document) → (fault_of d ≡ None) ↔ ((code : Code) (place : Place) → IsIn d place → holds code d place ≡ false)
+
+-- two matters are of one thing, and tell the same of it: its keys, its numbers and its texts
+abbrev pub TellSame : Matter → Matter → Type 0
+TellSame (matter.MissingKey k beside) (matter.MissingKey l other) = (k ≡ l) × (option_map (λ name. name.now) beside ≡ option_map (λ name. name.now) other)
+TellSame matter.NoTable matter.NoTable = Unit {0}
+TellSame (matter.WrongKind k) (matter.WrongKind l) = k ≡ l
+TellSame (matter.UnknownKey name) (matter.UnknownKey other) = name.now ≡ other.now
+TellSame (matter.OutOfRange k number) (matter.OutOfRange l other) = (k ≡ l) × (number ≡ other)
+TellSame (matter.TooMany k count) (matter.TooMany l other) = (k ≡ l) × (count ≡ other)
+TellSame (matter.TooManyFrames count) (matter.TooManyFrames other) = count ≡ other
+TellSame (matter.NoName k text) (matter.NoName l other) = (k ≡ l) × (text.now ≡ other.now)
+TellSame (matter.NoRouteName text) (matter.NoRouteName other) = text.now ≡ other.now
+TellSame (matter.LongRoute count) (matter.LongRoute other) = count ≡ other
+TellSame (matter.TakenName number) (matter.TakenName other) = number ≡ other
+TellSame (matter.NoNode name) (matter.NoNode other) = name.now ≡ other.now
+TellSame (matter.BadRate mbps) (matter.BadRate other) = mbps ≡ other
+TellSame matter.Loop matter.Loop = Unit {0}
+TellSame (matter.TakenCable number) (matter.TakenCable other) = number ≡ other
+TellSame (matter.ShortRoute count) (matter.ShortRoute other) = count ≡ other
+TellSame (matter.Twice name before again) (matter.Twice other sooner later) = (name.now ≡ other.now) × (before ≡ sooner) × (again ≡ later)
+TellSame (matter.NoStation name end) (matter.NoStation other ending) = (name.now ≡ other.now) × (end ≡ ending)
+TellSame (matter.NoBridge name) (matter.NoBridge other) = name.now ≡ other.now
+TellSame (matter.NoCable hop from to) (matter.NoCable other begin end) = (hop ≡ other) × (from.now ≡ begin.now) × (to.now ≡ end.now)
+TellSame matter.NoStream matter.NoStream = Unit {0}
+TellSame (matter.BadPeriod period cycle) (matter.BadPeriod other whole) = (period ≡ other) × (cycle ≡ whole)
+TellSame _ _ = ⊥
+
+-- what is told of the first fault of a document is one thing alone: two such faults have one place, and tell the same of it
+abbrev pub FirstReasonsAreOne : Type 0
+FirstReasonsAreOne = (d : Document) (one other : Amiss) → FindsFault d (Some one) → FindsFault d (Some other)
+    → (one.place ≡ other.place) × TellSame one.matter other.matter
 
 -- a file states one problem alone
 abbrev pub FilesStateOne : Type 0

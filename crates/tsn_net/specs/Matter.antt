@@ -2,26 +2,27 @@
 --     matter_code           the condition that a matter is of
 --     IsMatter              what it tells of a place is so
 --     FindsFault            the document's fault, with what is the matter; none where it has none
-use Rattle.std.specs.Prelude.{◌≡◌, ℕ, ℤ, pos, ◌+◌, ◌-◌, ◌<◌, ◌%◌, ◌⊎◌, Bool, true, false, not, ◌||◌, ◌==◌, sum_by, List, [], length, slice_index_or, Option, Some, None, IfSome, is_some, is_none, option_map}
-use Rattle.std.specs.List.{list_any, find}
+use Rattle.std.specs.Prelude.{◌≡◌, ℕ, ℤ, pos, ◌+◌, ◌-◌, ◌<◌, ◌≤◌, ◌%◌, Bool, true, false, not, ◌||◌, ◌==◌, nat_lt, sum_by, List, [], ◌∷◌, length, take, drop, slice_index_or, position, Option, Some, None, IfSome, is_some, is_none, option_map}
+use Rattle.std.specs.List.{list_any, find, range_with_len}
 use Rattle.std.specs.Str.{bytes_eq}
 use Rattle.toml.specs.Data.{Data, get}
 use Rattle.tsn_net.specs.declared.fault.Place.{Place}
-use Rattle.tsn_net.specs.declared.fault.Place.TheVariants.{Text, Top, Node, Cable, Stream}
+use Rattle.tsn_net.specs.declared.fault.Place.TheVariants.{Top, Node, Cable, Stream}
 use Rattle.tsn_net.specs.declared.fault.Code.{Code}
 use Rattle.tsn_net.specs.declared.fault.Code.TheVariants as code
 use Rattle.tsn_net.specs.declared.fault.NetFault.{NetFault}
 use Rattle.tsn_net.specs.declared.schema.Key.{Key}
 use Rattle.tsn_net.specs.declared.schema.Key.TheVariants as key
 use Rattle.tsn_net.specs.declared.schema.Table.{Table}
+use Rattle.tsn_net.specs.declared.schema.Table.TheVariants as tables
 use Rattle.tsn_net.specs.declared.matter.Matter.{Matter}
 use Rattle.tsn_net.specs.declared.matter.Matter.TheVariants as matter
 use Rattle.tsn_net.specs.declared.conditions.Amiss.{Amiss}
 use Rattle.tsn_net.specs.declared.matter.End.{End}
 use Rattle.tsn_net.specs.declared.matter.End.TheVariants.{First, Last}
-use Rattle.tsn_net.specs.Schema.{name_of, required, known, keys_in, is_table, holds_at, has_kind}
+use Rattle.tsn_net.specs.Schema.{name_of, required, known, keys_in, is_table, holds_at, has_kind, name_keys, number_keys, table_keys}
 use Rattle.tsn_net.specs.Document.{Document, value_at, table_at, integer_or, integer_at, number_at, number_or, text_at}
-use Rattle.tsn_net.specs.Conditions.{holds, first_place, fault_of, is_within, is_name, is_rate, route_of, frames_of, has_name, joins, repeats, runs_between_stations, is_joined, names_station, names_bridge, inner}
+use Rattle.tsn_net.specs.Conditions.{holds, first_place, fault_of, is_within, is_name, is_rate, route_of, frames_of, has_name, joins, repeats, runs_between_stations, is_joined, neighbours, names_station, names_bridge, inner}
 
 -- the condition that it is of
 abbrev pub matter_code : Matter → Code
@@ -97,76 +98,118 @@ count_at key.Link d = length d.cables
 count_at key.Stream d = length d.streams
 count_at _ d = 0
 
--- the tables before a place among those like it, and whether two places are of like tables
-abbrev pub like : Place → ℕ → Place
-like (Node n) k = Node k
-like (Cable n) k = Cable k
-like (Stream n) k = Stream k
-like p k = p
+-- the first key of a table at which the text is no name, the first at which the number is outside its limits, and the first key of the top
+-- table at which there are too many tables
+abbrev pub nameless_key : Table → Data → Option Key
+nameless_key t d = find (λ k. not (is_name (text_at k d))) (name_keys t)
 
+abbrev pub outside_key : Table → Data → Option Key
+outside_key t d = find (λ k. not (is_in_range k d)) (number_keys t)
+
+abbrev pub crowded_key : Document → Option Key
+crowded_key d = find (λ k. nat_lt (most_at k) (count_at k d)) table_keys
+
+abbrev pub breaks_key_limit : Table → Data → Bool
+breaks_key_limit t d = is_some (nameless_key t d) || is_some (outside_key t d)
+
+-- the names and the numbers of a table are within their limits
+abbrev pub KeepsLimits : Table → Data → Type 0
+KeepsLimits t d = (nameless_key t d ≡ None) × (outside_key t d ≡ None)
+
+-- the tables like that of a place that stand before it
 abbrev pub number_in : Place → ℕ
 number_in (Node n) = n
 number_in (Cable k) = k
 number_in (Stream i) = i
 number_in _ = 0
 
--- no node has this name: one that a cable or a route has
-abbrev pub IsNoNode : Document → Place → List ℕ → Type 0
-IsNoNode d (Cable k) name =
-    let cable = value_at d (Cable k) in
-    ((name ≡ text_at key.A cable) ⊎ (name ≡ text_at key.B cable)) × (has_name d.nodes name ≡ false)
-IsNoNode d p name = find (λ n. not (has_name d.nodes n)) (route_of (value_at d p)) ≡ Some name
+abbrev pub tables_like : Document → Place → List Data
+tables_like d (Node n) = d.nodes
+tables_like d (Cable k) = d.cables
+tables_like d (Stream i) = d.streams
+tables_like d _ = []
 
--- what a matter tells of a table by itself is so
-abbrev pub IsOfTable : Data → Matter → Type 0
-IsOfTable d (matter.OutOfRange k number) = (number ≡ number_of k d) × (is_in_range k d ≡ false)
-IsOfTable d (matter.NoName k text) = (text.now ≡ text_at k d) × (is_name text.now ≡ false)
-IsOfTable d (matter.NoRouteName text) = find (λ t. not (is_name t)) (route_of d) ≡ Some text.now
-IsOfTable d (matter.LongRoute count) = (count ≡ length (route_of d)) × (17 < count)
-IsOfTable d _ = ⊥
+abbrev pub tables_before : Document → Place → List Data
+tables_before d p = take (number_in p) (tables_like d p)
+
+-- the nodes that a cable or a route names, in order
+abbrev pub nodes_named : Document → Place → List (List ℕ)
+nodes_named d (Cable k) = let cable = value_at d (Cable k) in text_at key.A cable ∷ text_at key.B cable ∷ []
+nodes_named d p = route_of (value_at d p)
+
+-- what a matter tells of a table by itself is so, and the first that is wrong: a name, then a number, and last the route
+abbrev pub IsOfTable : Table → Data → Matter → Type 0
+IsOfTable t d (matter.NoName k text) = (nameless_key t d ≡ Some k) × (text.now ≡ text_at k d)
+IsOfTable t d (matter.OutOfRange k number) = (nameless_key t d ≡ None) × (outside_key t d ≡ Some k) × (number ≡ number_of k d)
+IsOfTable t d (matter.LongRoute count) = (t ≡ tables.Stream) × KeepsLimits t d × (count ≡ length (route_of d)) × (17 < count)
+IsOfTable t d (matter.NoRouteName text) =
+    (t ≡ tables.Stream) × KeepsLimits t d × (length (route_of d) ≤ 17) × (find (λ name. not (is_name name)) (route_of d) ≡ Some text.now)
+IsOfTable t d _ = ⊥
 
 -- the name at an end of a route
 abbrev pub end_of : End → List (List ℕ) → List ℕ
 end_of First route = slice_index_or route 0 []
 end_of Last route = slice_index_or route (length route - 1) []
 
--- what it tells of a route among these nodes is so
+-- the first index of a route whose name stands again behind it
+abbrev pub stands_again : List (List ℕ) → ℕ → Bool
+stands_again route i = list_any (bytes_eq (slice_index_or route i [])) (drop (i + 1) route)
+
+abbrev pub first_again : List (List ℕ) → Option ℕ
+first_again route = find (stands_again route) (range_with_len 0 (length route))
+
+-- two names or more, none of them twice
+abbrev pub HasDistinct : List (List ℕ) → Type 0
+HasDistinct route = (2 ≤ length route) × (first_again route ≡ None)
+
+-- what it tells of a route among these nodes is so, and the first that is wrong: the number of names, one that stands twice, the first
+-- end, the last one, and then what is between them
 abbrev pub IsOfRoute : List Data → List (List ℕ) → Matter → Type 0
 IsOfRoute nodes route (matter.ShortRoute count) = (count ≡ length route) × (count < 2)
 IsOfRoute nodes route (matter.Twice name before again) =
-    (before < again) × (again < length route) × (name.now ≡ slice_index_or route before []) × (bytes_eq name.now (slice_index_or route again []) ≡ true)
-IsOfRoute nodes route (matter.NoStation name end) = (name.now ≡ end_of end route) × (names_station nodes name.now ≡ false)
-IsOfRoute nodes route (matter.NoBridge name) = find (λ n. not (names_bridge nodes n)) (inner route) ≡ Some name.now
+    (2 ≤ length route) × (first_again route ≡ Some before) × (name.now ≡ slice_index_or route before [])
+    × (option_map (λ behind. before + 1 + behind) (position (bytes_eq name.now) (drop (before + 1) route)) ≡ Some again)
+IsOfRoute nodes route (matter.NoStation name First) = HasDistinct route × (name.now ≡ end_of First route) × (names_station nodes name.now ≡ false)
+IsOfRoute nodes route (matter.NoStation name Last) =
+    HasDistinct route × (names_station nodes (end_of First route) ≡ true) × (name.now ≡ end_of Last route) × (names_station nodes name.now ≡ false)
+IsOfRoute nodes route (matter.NoBridge name) =
+    HasDistinct route × (names_station nodes (end_of First route) ≡ true) × (names_station nodes (end_of Last route) ≡ true)
+    × (find (λ n. not (names_bridge nodes n)) (inner route) ≡ Some name.now)
 IsOfRoute nodes route _ = ⊥
 
--- no cable joins these neighbours of a route
+-- no cable joins these neighbours of a route, which are the first such
+abbrev pub first_gap : List Data → List (List ℕ) → Option ℕ
+first_gap cables route = position (λ p. not (list_any (joins p.0 p.1) cables)) (neighbours route)
+
 abbrev pub IsGap : List Data → List (List ℕ) → Matter → Type 0
 IsGap cables route (matter.NoCable hop from to) =
-    (hop + 1 < length route) × (from.now ≡ slice_index_or route hop []) × (to.now ≡ slice_index_or route (hop + 1) [])
-    × (list_any (joins from.now to.now) cables ≡ false)
+    (first_gap cables route ≡ Some hop) × (from.now ≡ slice_index_or route hop []) × (to.now ≡ slice_index_or route (hop + 1) [])
 IsGap cables route _ = ⊥
 
--- what a matter tells of a place is so
+-- what a matter tells of a place is so; where more is the matter by one condition, it is the first
 abbrev pub IsMatter : Document → Place → Matter → Type 0
 IsMatter d p (matter.MissingKey k beside) =
     (absent_key (table_at p) (value_at d p) ≡ Some k) × (option_map (λ name. name.now) beside ≡ other_key (table_at p) (value_at d p))
 IsMatter d p matter.NoTable = is_table (value_at d p) ≡ false
-IsMatter d p (matter.WrongKind k) = amiss_key (table_at p) (value_at d p) ≡ Some k
+IsMatter d p (matter.WrongKind k) = (is_table (value_at d p) ≡ true) × (amiss_key (table_at p) (value_at d p) ≡ Some k)
 IsMatter d p (matter.UnknownKey name) = other_key (table_at p) (value_at d p) ≡ Some name.now
-IsMatter d p (matter.OutOfRange k number) = IsOfTable (value_at d p) (matter.OutOfRange k number)
-IsMatter d p (matter.TooMany k count) = (count ≡ count_at k d) × (most_at k < count)
-IsMatter d p (matter.TooManyFrames count) = (count ≡ sum_by (frames_of (number_at key.Cycle d.top)) d.streams) × (1024 < count)
-IsMatter d p (matter.NoName k text) = IsOfTable (value_at d p) (matter.NoName k text)
-IsMatter d p (matter.NoRouteName text) = IsOfTable (value_at d p) (matter.NoRouteName text)
-IsMatter d p (matter.LongRoute count) = IsOfTable (value_at d p) (matter.LongRoute count)
+IsMatter d p (matter.OutOfRange k number) = IsOfTable (table_at p) (value_at d p) (matter.OutOfRange k number)
+IsMatter d p (matter.TooMany k count) = (p ≡ Top) × KeepsLimits (table_at p) (value_at d p) × (crowded_key d ≡ Some k) × (count ≡ count_at k d)
+IsMatter d p (matter.TooManyFrames count) =
+    (p ≡ Top) × KeepsLimits (table_at p) (value_at d p) × (crowded_key d ≡ None) × (count ≡ sum_by (frames_of (number_at key.Cycle d.top)) d.streams)
+    × (1024 < count)
+IsMatter d p (matter.NoName k text) = IsOfTable (table_at p) (value_at d p) (matter.NoName k text)
+IsMatter d p (matter.NoRouteName text) = IsOfTable (table_at p) (value_at d p) (matter.NoRouteName text)
+IsMatter d p (matter.LongRoute count) = IsOfTable (table_at p) (value_at d p) (matter.LongRoute count)
 IsMatter d p (matter.TakenName number) =
-    (number < number_in p) × (bytes_eq (text_at key.Name (value_at d p)) (text_at key.Name (value_at d (like p number))) ≡ true)
-IsMatter d p (matter.NoNode name) = IsNoNode d p name.now
+    position (λ t. bytes_eq (text_at key.Name (value_at d p)) (text_at key.Name t)) (tables_before d p) ≡ Some number
+IsMatter d p (matter.NoNode name) = find (λ n. not (has_name d.nodes n)) (nodes_named d p) ≡ Some name.now
 IsMatter d p (matter.BadRate mbps) = (mbps ≡ integer_at key.Mbps (value_at d p)) × (is_rate mbps ≡ false)
 IsMatter d p matter.Loop = bytes_eq (text_at key.A (value_at d p)) (text_at key.B (value_at d p)) ≡ true
 IsMatter d p (matter.TakenCable number) =
     let cable = value_at d p in
-    (number < number_in p) × (joins (text_at key.A cable) (text_at key.B cable) (value_at d (Cable number)) ≡ true)
+    (bytes_eq (text_at key.A cable) (text_at key.B cable) ≡ false)
+    × (position (joins (text_at key.A cable) (text_at key.B cable)) (tables_before d p) ≡ Some number)
 IsMatter d p (matter.ShortRoute count) = IsOfRoute d.nodes (route_of (value_at d p)) (matter.ShortRoute count)
 IsMatter d p (matter.Twice name before again) = IsOfRoute d.nodes (route_of (value_at d p)) (matter.Twice name before again)
 IsMatter d p (matter.NoStation name end) = IsOfRoute d.nodes (route_of (value_at d p)) (matter.NoStation name end)
@@ -183,8 +226,8 @@ abbrev pub Finds : Code → Document → Place → Option Matter → Type 0
 Finds c d p found = (is_some found ≡ holds c d p) × IfSome found (λ m. (matter_code m ≡ c) × IsMatter d p m)
 
 -- where a table breaks a limit a matter of that, and else none
-abbrev pub FindsIn : Bool → Data → Option Matter → Type 0
-FindsIn breaks d found = (is_some found ≡ breaks) × IfSome found (λ m. (matter_code m ≡ code.Limit) × IsOfTable d m)
+abbrev pub FindsIn : Bool → Table → Data → Option Matter → Type 0
+FindsIn breaks t d found = (is_some found ≡ breaks) × IfSome found (λ m. (matter_code m ≡ code.Limit) × IsOfTable t d m)
 
 abbrev pub FindsRoute : List Data → List (List ℕ) → Option Matter → Type 0
 FindsRoute nodes route found =
@@ -194,11 +237,6 @@ FindsRoute nodes route found =
 abbrev pub FindsGap : List Data → List (List ℕ) → Option Matter → Type 0
 FindsGap cables route found =
     (is_some found ≡ not (is_joined cables route)) × IfSome found (λ m. (matter_code m ≡ code.NoCable) × IsGap cables route m)
-
--- the index of an element that passes the test, where there is one
-abbrev pub FindsNumber : {A : Type 0} → A → (A → Bool) → List A → Option ℕ → Type 0
-FindsNumber absent test xs found =
-    (is_some found ≡ list_any test xs) × IfSome found (λ n. (n < length xs) × (test (slice_index_or xs n absent) ≡ true))
 
 -- the first place of these where the condition holds, with what is the matter there
 abbrev pub FindsAmong : Code → Document → List Place → Option Amiss → Type 0

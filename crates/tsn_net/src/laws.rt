@@ -1,6 +1,6 @@
 //! The laws of the definitions. Each function does nothing: its contract is the law.
 
-ghost use Rattle.tsn_net.specs.Laws.{FaultsAreFirst, FaultlessIsClear, FilesStateOne, OffsetsAreKept};
+ghost use Rattle.tsn_net.specs.Laws.{FaultsAreFirst, FaultlessIsClear, FirstReasonsAreOne, FilesStateOne, OffsetsAreKept};
 
 use tsn_model::laws::held_streams_keep_offsets;
 
@@ -13,6 +13,11 @@ pub fn faults_are_first()
 /// A document has no fault exactly where no condition holds at any place.
 pub fn faultless_is_clear()
     ensures { FaultlessIsClear }
+{}
+
+/// What is told of the first fault of a document is one thing alone: of its place, of its key, and of its numbers and texts.
+pub fn first_reasons_are_one()
+    ensures { FirstReasonsAreOne }
 {}
 
 /// A file states one problem alone.

@@ -29,7 +29,7 @@ impl Network {
     /// Its times.
     pub fn timing(self, alloc: Global, cycle: u64) -> Option<Timing> {
         let problem = self.problem(alloc, cycle)?;
-        let timing = problem.timing(alloc);
+        let timing = problem.timing().copy(alloc);
         drop(problem);
         timing.ok()
     }

@@ -144,6 +144,23 @@ fn what_is_learned_is_told(rt: HostRuntime) {
     );
 }
 
+/// What was shown stands: a lower bound that is heard later doesn't take its place, nor does what the search counts by itself. The first
+/// line is told at 1200 ms, 600 ms behind the beginning of the phase, and the last at 1800 ms.
+#[test]
+fn the_greatest_bound_is_told(rt: HostRuntime) {
+    let console = Console::new(rt.alloc());
+    let progress = ProgressWriter::new(&console, 1);
+    progress.hear_bound(2_920);
+    progress.hear_bound(2_900);
+    progress.begin(Phase::Learning);
+    progress.hear_learned(learned(3, None));
+    progress.end();
+    console.expect(
+        &rt,
+        "tsn: so far: settled 0, conflicts 3, flowspan, best 2924 ns, bound 2920 ns, gap 4 ns, 5 conflicts a second\ntsn: in all: settled 0, conflicts 3, best 2924 ns, bound 2920 ns, gap 4 ns, 2 conflicts a second\n",
+    );
+}
+
 /// Where several go on along a schedule the count begins anew, at 600 ms: 256 nodes with 130 splits leave 261 - 256 open at 1200 ms, 600 ms later.
 /// The schedule that was found before is known still.
 #[test]

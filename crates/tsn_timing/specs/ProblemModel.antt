@@ -4,4 +4,4 @@ use Rattle.tsn_timing.specs.Problem.{NamedNetwork}
 use Rattle.tsn_timing.specs.ProblemView.{names_in}
 
 abbrev pub named_network : Inside → NamedNetwork
-named_network p = record { network = p.network; node_names = names_in p.nodes.items; stream_names = names_in p.streams.items }
+named_network p = record { network = p.timing; node_names = names_in p.nodes.items; stream_names = names_in p.streams.items }

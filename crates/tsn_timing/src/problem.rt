@@ -1,23 +1,22 @@
 //! A problem: a network and the streams that are to be planned on it, with their names.
-ghost use Rattle.std.specs.Prelude.{◌≡◌, ◌<◌, Some, length, slice_get, IfOk};
+ghost use Rattle.std.specs.Prelude.{◌≡◌, ◌<◌, Some, length, slice_get};
 ghost use Rattle.tsn_model.specs.Network.{stream_count};
 ghost use Rattle.tsn_timing.specs.Problem.{HasNames};
 ghost use Rattle.tsn_timing.specs.ProblemView.{names_in};
 
 use crate::timing::Timing;
-use std::alloc::Global;
 use std::marker::Model;
 use std::ops::Deref;
-use tsn_model::NoMemory;
 use tsn_model::plain::PlainNetwork;
 
-/// A network within its limits, with the names of its nodes and streams: a `PlainNetwork`, whose calls it has, and the names.
+/// A network within its limits, with the names of its nodes and streams: a `PlainNetwork`, whose calls it has, the times of its
+/// streams, which are made once, and the names.
 /// Nodes, links and streams are numbered from 0 in file order: cable k is link 2k from its node `a` to its node `b`, and
 /// link 2k + 1 back. A stream without a release may start at once, and one without a latest instant has the cycle to arrive.
 /// One that has an offset already has no other.
 #[derive(Drop)]
 pub struct Problem {
-    network: PlainNetwork,
+    timing: Timing,
     nodes: Vec<String>,
     streams: Vec<String>,
 }
@@ -43,29 +42,29 @@ impl Deref for Problem {
     fn deref(&self) -> &PlainNetwork
         ensures { result.now ≡ self.now.network }
     {
-        &self.network
+        self.timing.plain()
     }
 }
 
 impl Problem {
-    /// A network with the names of its nodes and streams, one for each.
-    pub fn new(network: PlainNetwork, nodes: Vec<String>, streams: Vec<String>) -> Problem
+    /// A network, by its times, with the names of its nodes and streams, one for each.
+    pub fn new(timing: Timing, nodes: Vec<String>, streams: Vec<String>) -> Problem
         requires { HasNames
-            (record { network = network; node_names = names_in nodes.items; stream_names = names_in streams.items }) }
-        ensures { result ≡ record { network = network; node_names = names_in nodes.items; stream_names = names_in streams.items } }
+            (record { network = timing; node_names = names_in nodes.items; stream_names = names_in streams.items }) }
+        ensures { result ≡ record { network = timing; node_names = names_in nodes.items; stream_names = names_in streams.items } }
     {
         Problem {
-            network,
+            timing,
             nodes,
             streams,
         }
     }
 
-    /// The times of its streams. The error says that there was no memory.
-    pub fn timing(&self, alloc: Global) -> Result<Timing, NoMemory>
-        ensures { IfOk result (λ timing. timing ≡ self.now.network) }
+    /// The times of its streams.
+    pub fn timing(&self) -> &Timing
+        ensures { result.now ≡ self.now.network }
     {
-        Timing::of(alloc, &self.network)
+        &self.timing
     }
 
     /// How many nodes there are, at most 256. Each has a name.
@@ -73,7 +72,7 @@ impl Problem {
         ensures count { result ≡ length self.now.network.procs }
         ensures named { result ≡ length self.now.node_names }
     {
-        self.network.nodes()
+        self.timing.plain().nodes()
     }
 
     /// The name of a node.
@@ -89,7 +88,7 @@ impl Problem {
         ensures count { result ≡ stream_count self.now.network }
         ensures named { result ≡ length self.now.stream_names }
     {
-        self.network.streams()
+        self.timing.plain().streams()
     }
 
     /// The name of a stream.

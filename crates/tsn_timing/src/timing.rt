@@ -50,6 +50,13 @@ impl Timing {
         ensures { IfOk result (λ timing. timing ≡ network.now) }
     {
         let network = network.copy(alloc)?;
+        Timing::over(alloc, network)
+    }
+
+    /// The timing of a network, which it takes. The error says that there was no memory.
+    pub fn over(alloc: Global, network: PlainNetwork) -> Result<Timing, NoMemory>
+        ensures { IfOk result (λ timing. timing ≡ network) }
+    {
         let tables = tables_of(alloc, &network)?;
         Ok(Timing { network, tables })
     }
@@ -58,9 +65,7 @@ impl Timing {
     pub fn copy(&self, alloc: Global) -> Result<Timing, NoMemory>
         ensures { IfOk result (λ timing. timing ≡ self.now) }
     {
-        let network = self.network.copy(alloc)?;
-        let tables = tables_of(alloc, &network)?;
-        Ok(Timing { network, tables })
+        Timing::of(alloc, &self.network)
     }
 
     /// The same network as the plain program has it, which works out each number anew.

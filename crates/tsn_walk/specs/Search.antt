@@ -1,8 +1,8 @@
 -- What a search reads, and one in a book of its own.
 --     AreTablesOf        the tables of a network
 --     IsSearchBy         whose book it is who settles, by which tables
---     IsFurther          what settlements leave as it was
-use Rattle.std.specs.Prelude.{◌≡◌, ℕ, ◌<◌, ◌≤◌, List, ◌++◌, length}
+--     IsFurther          what a teller's settlements leave as it was
+use Rattle.std.specs.Prelude.{◌≡◌, ℕ, ◌<◌, ◌≤◌, List, ◌++◌, length, All}
 use Rattle.tsn_model.specs.Network.{Network}
 use Rattle.tsn_model.specs.Search.{Settlement}
 use Rattle.tsn_branch.specs.declared.tables.Tables.{Tables}
@@ -18,11 +18,12 @@ pub record IsSearchBy (tables : Tables) (teller until : ℕ) (book : Progress) :
   pub within : until ≤ book.limit
   pub is_teller : teller < book.tellers
 
--- the book of the same search, in which the same is settled, and maybe more after it
-pub record IsFurther (old new : Progress) : Type 0 where
+-- the book of the same search, in which the same is settled, and maybe more after it, all of that by this teller
+pub record IsFurther (teller : ℕ) (old new : Progress) : Type 0 where
   pub same_network : new.network ≡ old.network
   pub same_tellers : new.tellers ≡ old.tellers
   pub same_limit : new.limit ≡ old.limit
   pub later : List Settlement
+  pub by_teller : All (λ settlement. settlement.teller ≡ teller) later
   pub follows : new.history ≡ old.history ++ later
   pub more : length old.history ≤ length new.history

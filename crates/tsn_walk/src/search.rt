@@ -26,7 +26,8 @@ struct Course<'a, S> {
     until: usize,
 }
 
-/// Settles open nodes until none is open or so many are settled, at most the limit. The error says that there was no memory.
+/// Settles open nodes as this teller, until none is open or so many are settled, at most the limit. The error says that there was no
+/// memory.
 ///
 /// Where a schedule is known the nodes on its way come first, and then what is open below those beside it, the nearest first. Else
 /// the first open node is taken, again and again.
@@ -38,7 +39,7 @@ pub fn settle_open<S: Supervisor>(
     book: Book,
 ) -> Result<Book, NoMemory>
     requires search { IsSearchBy setting.now.tables teller until book }
-    ensures further { IfOk result (IsFurther book) }
+    ensures further { IfOk result (IsFurther teller book) }
     ensures done { IfOk result (λ searched. (open_paths searched.history ≡ []) ⊎ (until ≤ length searched.history)) }
 {
     let course = Course {
@@ -57,14 +58,14 @@ pub fn settle_open<S: Supervisor>(
 }
 
 // Settles open nodes until none is open or so many are settled.
-#[tactic(auto, using(crate::proofs::Further::stays, crate::proofs::Further::goes_on, crate::proofs::Further::appended))]
+#[tactic(auto, using(crate::proofs::Further::stays, crate::proofs::Further::goes_on))]
 fn settle_all<S: Supervisor>(
     course: &Course<'_, S>,
     known: Option<&[u64]>,
     book: &mut Book,
 ) -> Result<(), NoMemory>
     requires search { IsSearchBy course.now.setting.now.tables course.now.teller course.now.until book.old }
-    ensures further { IsFurther book.old book.new }
+    ensures further { IsFurther course.now.teller book.old book.new }
     ensures done { OnOk result ((open_paths book.new.history ≡ []) ⊎ (course.now.until ≤ length book.new.history)) }
 {
     let setting = course.setting;
@@ -84,7 +85,7 @@ fn settle_all<S: Supervisor>(
 }
 
 // Settles the nodes on the way that a schedule keeps to, from where it is open, and gives the other sides to the bag.
-#[tactic(auto, using(crate::proofs::Further::stays, crate::proofs::Further::goes_on, crate::proofs::Further::appended))]
+#[tactic(auto, using(crate::proofs::Further::stays, crate::proofs::Further::goes_on))]
 fn dive<S: Supervisor>(
     course: &Course<'_, S>,
     book: &mut Book,
@@ -92,7 +93,7 @@ fn dive<S: Supervisor>(
     others: &mut OpenNodes,
 ) -> Result<(), NoMemory>
     requires search { IsSearchBy course.now.setting.now.tables course.now.teller course.now.until book.old }
-    ensures further { IsFurther book.old book.new }
+    ensures further { IsFurther course.now.teller book.old book.new }
 {
     let setting = course.setting;
     let tables = setting.tables;
@@ -121,7 +122,7 @@ fn dive<S: Supervisor>(
 
 // Takes an open node, and settles what is open below it, or the first open node alone where no way leads to that one. False
 // where nothing is open then.
-#[tactic(auto, using(crate::proofs::Further::stays, crate::proofs::Further::goes_on, crate::proofs::Further::appended))]
+#[tactic(auto, using(crate::proofs::Further::stays, crate::proofs::Further::goes_on))]
 fn settle_more<S: Supervisor>(
     course: &Course<'_, S>,
     book: &mut Book,
@@ -130,7 +131,7 @@ fn settle_more<S: Supervisor>(
     requires search { IsSearchBy course.now.setting.now.tables course.now.teller course.now.until book.old }
     requires some_open { 0 < length (open_paths book.old.history) }
     requires some_left { length book.old.history < course.now.until }
-    ensures further { IsFurther book.old book.new }
+    ensures further { IsFurther course.now.teller book.old book.new }
     ensures more { IfOk result (λ more. MatchBool more (length book.old.history < length book.new.history) (open_paths book.new.history ≡ [])) }
 {
     let before = book.count();
@@ -162,14 +163,14 @@ fn first_open<S: Supervisor>(course: &Course<'_, S>, book: &Book) -> Result<Node
 }
 
 // Settles what is open below a node, until so many are settled.
-#[tactic(auto, using(crate::proofs::Further::stays, crate::proofs::Further::goes_on, crate::proofs::Further::appended))]
+#[tactic(auto, using(crate::proofs::Further::stays, crate::proofs::Further::goes_on))]
 fn settle_under<S: Supervisor>(
     course: &Course<'_, S>,
     book: &mut Book,
     node: Node,
 ) -> Result<(), NoMemory>
     requires search { IsSearchBy course.now.setting.now.tables course.now.teller course.now.until book.old }
-    ensures further { IsFurther book.old book.new }
+    ensures further { IsFurther course.now.teller book.old book.new }
 {
     let setting = course.setting;
     let tables = setting.tables;
@@ -192,7 +193,7 @@ fn settle_under<S: Supervisor>(
 
 // Looks at up to so many nodes where the walk stands, and settles them, once the supervisor was passed for each. False where the walk
 // doesn't go on.
-#[tactic(auto, using(crate::proofs::Further::stays, crate::proofs::Further::goes_on, crate::proofs::Further::appended))]
+#[tactic(auto, using(crate::proofs::Further::stays, crate::proofs::Further::goes_on))]
 fn settle_batch<S: Supervisor>(
     course: &Course<'_, S>,
     book: &mut Book,
@@ -202,7 +203,7 @@ fn settle_batch<S: Supervisor>(
     requires search { IsSearchBy course.now.setting.now.tables course.now.teller course.now.until book.old }
     requires below { IsBelow course.now.setting.now.tables.timing.now course.now.setting.now.tables.conflicts.now.triples below.old }
     requires most { (1 ≤ most) × (most ≤ BATCH) }
-    ensures further { IsFurther book.old book.new }
+    ensures further { IsFurther course.now.teller book.old book.new }
     ensures below { IfOk result (λ more. more ≡ true → IsBelow course.now.setting.now.tables.timing.now course.now.setting.now.tables.conflicts.now.triples below.new) }
 {
     let setting = course.setting;
@@ -223,7 +224,7 @@ fn settle_batch<S: Supervisor>(
 }
 
 // Settles what was found at the nodes of a walk. False where the walk doesn't go on.
-#[tactic(auto, using(crate::proofs::Further::stays, crate::proofs::Further::goes_on, crate::proofs::Further::appended))]
+#[tactic(auto, using(crate::proofs::Further::stays, crate::proofs::Further::goes_on, crate::proofs::Further::settled))]
 fn record_batch<S: Supervisor>(
     course: &Course<'_, S>,
     book: &mut Book,
@@ -232,7 +233,7 @@ fn record_batch<S: Supervisor>(
 ) -> Result<bool, NoMemory>
     requires search { IsSearchBy course.now.setting.now.tables course.now.teller course.now.until book.old }
     requires batch { (seen : _) × IsBatch book.old.network seen from.old batch }
-    ensures further { IsFurther book.old book.new }
+    ensures further { IsFurther course.now.teller book.old book.new }
     ensures goes_on { IfOk result (λ more. more ≡ true → (batch.more ≡ true) × (from.new ≡ path_after from.old (outcomes_of batch))) }
 {
     let Batch {
@@ -268,12 +269,12 @@ fn tell<S: Supervisor>(course: &Course<'_, S>, book: &Book, nodes: usize, splits
 }
 
 // Settles the open node that is first in preorder, looked at by itself.
-#[tactic(auto, using(crate::proofs::Further::stays, crate::proofs::Further::goes_on, crate::proofs::Further::appended))]
+#[tactic(auto, using(crate::proofs::Further::stays, crate::proofs::Further::goes_on))]
 fn settle_first_open<S: Supervisor>(course: &Course<'_, S>, book: &mut Book) -> Result<(), NoMemory>
     requires search { IsSearchBy course.now.setting.now.tables course.now.teller course.now.until book.old }
     requires some_open { 0 < length (open_paths book.old.history) }
     requires some_left { length book.old.history < book.old.limit }
-    ensures further { IsFurther book.old book.new }
+    ensures further { IsFurther course.now.teller book.old book.new }
     ensures more { OnOk result (length book.new.history ≡ length book.old.history + 1) }
 {
     let setting = course.setting;
@@ -296,7 +297,7 @@ fn settle_first_open<S: Supervisor>(course: &Course<'_, S>, book: &mut Book) -> 
 }
 
 // Settles an open node, as a look found it.
-#[tactic(auto, using(crate::proofs::Further::stays, crate::proofs::Further::goes_on, crate::proofs::Further::appended))]
+#[tactic(auto, using(crate::proofs::Further::stays, crate::proofs::Further::settled_one))]
 fn record(book: &mut Book, teller: usize, event: Event) -> Result<(), NoMemory>
     requires teller { teller < book.old.tellers }
     requires some_left { length book.old.history < book.old.limit }
@@ -304,7 +305,7 @@ fn record(book: &mut Book, teller: usize, event: Event) -> Result<(), NoMemory>
     requires proof { HasProof book.old.network event.node (outcome_of event.look) }
     requires undecided { SplitsUndecided book.old.network event.node (outcome_of event.look) }
     requires met { IsMet book.old.network book.old.history event.node (outcome_of event.look) }
-    ensures further { IsFurther book.old book.new }
+    ensures further { IsFurther teller book.old book.new }
     ensures more { OnOk result (length book.new.history ≡ length book.old.history + 1) }
 {
     match book.settle(teller, event) {

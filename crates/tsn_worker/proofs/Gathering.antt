@@ -1,6 +1,6 @@
 -- What tellers have gathered, by the seat that was closed.
 use Rattle.std.proofs.Common.{◌≡◌, ℕ, List, [], ◌∷◌, map, refl, sym, ap, ◌∙◌, subst}
-use Rattle.std.specs.Prelude.{◌≤◌, All, length, sum_by}
+use Rattle.std.specs.Prelude.{◌≤◌, All}
 use Rattle.std.proofs.lemmas.List.Elements.{All-nil, All-cons, All-head, All-tail}
 use Rattle.tsn_model.specs.Network.{Network}
 use Rattle.tsn_model.specs.Certificate.{beyond}
@@ -36,10 +36,10 @@ pruned network history (t ∷ ts) agree =
 -- the tellers of the closed seat are those that came back
 pub gathers : (names : Names) (ended : Ended) (book : Progress) (tellers : List Known) → ended.seat.race ≡ names.race
     → ended.seat.standings ≡ standings_of tellers → IsBookOf names book → AreBack names.race.tellers tellers
-    → All (Agrees names.race.network book.history) tellers → length book.history ≡ sum_by (λ (t : Known). t.tally.events) tellers
+    → All (Agrees names.race.network book.history) tellers
     → ended.word ≡ best_bound names.race.network book.history → IsSound names.race.network (state_of ended.word tellers book.history)
     → (open_paths book.history ≡ [] → IsQuiet (state_of ended.word tellers book.history)) → IsGathered ended book
-gathers names ended book tellers race standings of back agree counted least sound quiet =
+gathers names ended book tellers race standings of back agree least sound quiet =
     let network : ended.seat.race.network ≡ names.race.network = ap (λ (r : Race). r.network) race in
     let these : tellers_by ended book.history ≡ tellers =
     (λ i. map (known_by (network i) book.history) (standings i)) ∙ same names.race.network book.history tellers agree in
@@ -50,7 +50,6 @@ gathers names ended book tellers race standings of back agree counted least soun
       back = subst (λ n. AreBack n (tellers_by ended book.history)) count (subst (AreBack names.race.tellers) (sym these) back);
       pruned = subst (λ (ts : List Known). All (λ (t : Known). beyond book.network t.standing.seen ≤ t.tally.pruned) ts) (sym these)
           (pruned book.network book.history tellers (subst (λ n. All (Agrees n book.history) tellers) ours agree));
-      counted = counted ∙ ap (sum_by (λ (t : Known). t.tally.events)) (sym these);
       least = least ∙ ap (λ n. best_bound n book.history) ours;
       sound = subst (λ (ts : List Known). IsSound book.network (state_of ended.word ts book.history)) (sym these)
           (subst (λ n. IsSound n (state_of ended.word tellers book.history)) ours sound);

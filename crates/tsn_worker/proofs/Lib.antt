@@ -1,4 +1,5 @@
 mod Teams
 mod Gathering
+mod Bounds
 pub mod BatchTellers
 pub mod Bags

@@ -1,10 +1,9 @@
 -- What several workers leave, and of what kind a certificate is.
-use Rattle.std.proofs.Common.{◌≡◌, ℕ, ◌+◌, ◌≤◌, length, sym, ap, subst, arith}
+use Rattle.std.proofs.Common.{◌≡◌, ℕ, ◌+◌, ◌≤◌, sym, subst, arith}
 use Rattle.std.specs.Prelude.{Option, None, Some, IsSomeAnd, Result, Ok, Err, IfOk}
-use Rattle.std.proofs.lemmas.List.{length-append}
 use Rattle.tsn_model.specs.Network.{Network}
 use Rattle.tsn_incumbent.specs.Standings.{Ended}
-use Rattle.tsn_book.specs.Book.{Progress}
+use Rattle.tsn_book.specs.Book.{Progress, IsLawful}
 use Rattle.tsn_cert.specs.declared.certificate.Certificate.TheVariants.{Tree, Argument as Argued}
 use Rattle.tsn_walk.specs.Search.{IsFurther}
 use Rattle.tsn_worker.specs.Gathered.{IsGathered}
@@ -14,7 +13,7 @@ use Rattle.tsn_answer.specs.declared.answer.Answer.{Answer}
 use Rattle.tsn_answer.specs.declared.answer.Answer.TheVariants.{Optimal, NoSchedule, Stopped}
 use Rattle.tsn_answer.specs.declared.found.Found.{Found}
 use Rattle.tsn_answer.specs.declared.found.Found.TheVariants as found
-use Rattle.tsn_answer.specs.Answer.{IsAnswerBy, IsAnswerShown, IsFoundBy, HasNoArgument, HasTree, IsCounted, MayArgue, count_in}
+use Rattle.tsn_answer.specs.Answer.{IsAnswerBy, IsAnswerShown, IsFound, IsFoundBy, IsOfBook, HasNoArgument, HasTree, IsCounted, MayArgue}
 use Rattle.tsn_worker.specs.GoingOn.{GoesOn}
 use Rattle.tsn_worker.specs.Team.{IsGatheredFor, IsGatheredIn, IsTeamAnswer, IsTeamwork}
 
@@ -25,40 +24,39 @@ alone workers (found.Argued plan argument) one = tt
 alone workers (found.Stopped book known) one = λ two. absurd (omega arith)
 
 gathered_in : (workers : ℕ) (ended : Ended) (gathered book : Progress) → ended.seat.race.tellers ≡ workers + 1
-    → IsGathered ended gathered → IsFurther gathered book → IsGatheredIn workers ended book
+    → IsGathered ended gathered → IsFurther workers gathered book → IsGatheredIn workers ended book
 gathered_in workers ended gathered book tellers is further = record {
   tellers = tellers;
   first = gathered.history;
   later = further.later;
   is = further.follows;
+  by_caller = further.by_teller;
   gathered = subst (IsGathered ended)
       (λ i. record { network = sym further.same_network i; tellers = sym further.same_tellers i; limit = sym further.same_limit i; history = gathered.history }) is;
 }
 
 -- several have gathered the book in which the caller went on
 pub together : (workers : ℕ) (ended : Ended) (gathered : Progress) (left : Found) → ended.seat.race.tellers ≡ workers + 1
-    → IsGathered ended gathered → GoesOn gathered left → IsTeamwork workers (Some ended) left
+    → IsGathered ended gathered → GoesOn workers gathered left → IsTeamwork workers (Some ended) left
 together workers ended gathered (found.Finished book) tellers is further = λ two. gathered_in workers ended gathered book tellers is further
 together workers ended gathered (found.Argued plan argument) tellers is further = tt
 together workers ended gathered (found.Stopped book known) tellers is further = λ two. gathered_in workers ended gathered book tellers is further
 
--- what they gathered is counted in an answer of the book
-gathered_for : (workers count : ℕ) (word : Option Ended) (book : Progress) → count ≡ length book.history
-    → IsSomeAnd word (λ ended. IsGatheredIn workers ended book)
-    → IsSomeAnd word (IsGatheredFor workers count)
-gathered_for workers count None book counted is = is
-gathered_for workers count (Some ended) book counted is = record {
-  tellers = is.tellers;
-  book = record book { history = is.first };
-  gathered = is.gathered;
-  within = omega (arith, counted, ap length is.is, length-append is.first is.later);
-}
+-- what they gathered is what is answered of the book
+gathered_for : (network : Network) (workers : ℕ) (word : Option Ended) (book : Progress) (answer : Answer) → book.network ≡ network → IsLawful book
+    → IsOfBook book answer → IsSomeAnd word (λ ended. IsGatheredIn workers ended book)
+    → IsSomeAnd word (IsGatheredFor network workers answer)
+gathered_for network workers None book answer same lawful of is = is
+gathered_for network workers (Some ended) book answer same lawful of is =
+    record { book = book; same_network = same; lawful = lawful; gathered = is; answered = of }
 
-pub answered : (workers : ℕ) (word : Option Ended) (left : Found) (answer : Answer) → IsTeamwork workers word left
-    → IsCounted left answer → IsTeamAnswer workers word answer
-answered workers word (found.Finished book) answer team counted = λ two tree. gathered_for workers (count_in answer) word book counted (team two)
-answered workers word (found.Argued plan argument) answer team none = λ two tree. absurd (none tree)
-answered workers word (found.Stopped book known) answer team counted = λ two tree. gathered_for workers (count_in answer) word book counted (team two)
+pub answered : (network : Network) (limit workers : ℕ) (word : Option Ended) (left : Found) (answer : Answer) → IsFound network limit left
+    → IsTeamwork workers word left → IsCounted left answer → IsTeamAnswer network workers word answer
+answered network limit workers word (found.Finished book) answer done team of =
+    λ two tree. gathered_for network workers word book answer done.same_network done.lawful of (team two)
+answered network limit workers word (found.Argued plan argument) answer argued team none = λ two tree. absurd (none tree)
+answered network limit workers word (found.Stopped book known) answer stopped team of =
+    λ two tree. gathered_for network workers word book answer stopped.stopped.same_network stopped.stopped.lawful of (team two)
 
 -- in the order of the file a certificate is a tree, which is whole
 pub has_tree : (network : Network) (limit : ℕ) (effort : Effort) (answer : Answer)

@@ -2,7 +2,7 @@
 --     AreBack         tellers that have come back
 --     tellers_by      what the tellers of a closed seat know, after a history
 --     IsGathered      the word in the end, and the book: the state in which a search by several ended
-use Rattle.std.specs.Prelude.{◌≡◌, ℕ, ◌≤◌, List, [], map, length, sum_by, All}
+use Rattle.std.specs.Prelude.{◌≡◌, ℕ, ◌≤◌, List, [], map, length, All}
 use Rattle.tsn_model.specs.Network.{Network}
 use Rattle.tsn_model.specs.Certificate.{beyond}
 use Rattle.tsn_model.specs.Core.{IsSound, IsQuiet}
@@ -30,7 +30,6 @@ pub record IsGathered (ended : Ended) (book : Progress) : Type 0 where
   pub network : book.network ≡ ended.seat.race.network
   pub back : AreBack ended.seat.race.tellers (tellers_by ended book.history)
   pub pruned : All (λ known. beyond book.network known.standing.seen ≤ known.tally.pruned) (tellers_by ended book.history)
-  pub counted : length book.history ≡ sum_by (λ known. known.tally.events) (tellers_by ended book.history)
   pub least : ended.word ≡ best_bound book.network book.history
   pub sound : IsSound book.network (state_of ended.word (tellers_by ended book.history) book.history)
   pub quiet : open_paths book.history ≡ [] → IsQuiet (state_of ended.word (tellers_by ended book.history) book.history)

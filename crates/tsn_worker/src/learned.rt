@@ -6,11 +6,12 @@ ghost use Rattle.tsn_answer.specs.Answer.{IsArgued};
 ghost use Rattle.tsn_answer.specs.Known.{IsKnown, LosesNothing};
 ghost use Rattle.tsn_worker.specs.Learned.{CountsBound, IsLearned, ShowsLeast, bound_in};
 
+use crate::task::Task;
 use crate::telling::tell_bound;
 use std::alloc::Global;
 use tsn_answer::{Hearer, Known, budget_of};
 use tsn_argue::check_argument;
-use tsn_branch::{Phase, Setting, Supervisor};
+use tsn_branch::{Phase, Supervisor};
 use tsn_cert::{Argument, Offsets, Plan};
 use tsn_check::{CheckFault, Verdict};
 use tsn_learn::{BestSoFar, LearnAnswer, learn};
@@ -37,20 +38,15 @@ struct Question<'a> {
 /// What a conflict-driven search finds, from the schedule on that is known, where there is one: an argument of at most so many steps, which
 /// is checked. Where memory is wanting nothing is shown. What it has as its best schedule counts where it is valid, and what it has
 /// as a bound where its argument is accepted. The supervisor hears of the bound that this comes to.
-pub fn find_by_learning<S: Supervisor>(
-    setting: &Setting<'_, S>,
-    problem: &Problem,
-    limit: usize,
-    known: Known,
-) -> Learned
-    requires timing { setting.now.tables.timing.now ≡ problem.now.network }
-    requires known { IsKnown problem.now.network known }
-    ensures { IsLearned problem.now.network limit known result }
+pub fn find_by_learning<S: Supervisor>(task: &Task<'_, S>, known: Known) -> Learned
+    requires known { IsKnown task.now.problem.now.network known }
+    ensures { IsLearned task.now.problem.now.network task.now.effort.limit known result }
 {
+    let setting = task.setting;
     let question = Question {
-        problem,
+        problem: task.problem,
         timing: setting.tables.timing,
-        limit,
+        limit: task.effort.limit,
     };
     setting.supervisor.begin(Phase::Learning);
     let learned = learned_by(setting.alloc, question, known, setting.supervisor);

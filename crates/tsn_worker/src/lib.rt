@@ -13,6 +13,7 @@ pub mod planning;
 mod searched;
 mod settler;
 mod start;
+mod task;
 mod team;
 mod telling;
 pub mod threads;

@@ -1,17 +1,18 @@
 //! Plans a network.
 ghost use Rattle.std.specs.Prelude.{◌≡◌, ◌≤◌, ◌<◌, length, IfOk};
-ghost use Rattle.tsn_answer.specs.Optimum.{FindsOptimum};
+ghost use Rattle.tsn_answer.specs.Optimum.{AnswersOptimum, FindsOptimum};
 ghost use Rattle.tsn_answer.specs.Answer.{HasTree, IsAnswerBy, IsAnswerReadAgain, IsAnswerShown, IsFound, IsFoundBy, HasNoArgument, KeepsFound, KeepsKept, KeepsKnown};
 ghost use Rattle.tsn_answer.specs.Known.{IsKnown};
 ghost use Rattle.tsn_walk.specs.Search.{IsSearchBy};
 ghost use Rattle.tsn_worker.specs.GoingOn.{GoesOn};
-ghost use Rattle.tsn_worker.specs.Team.{IsTeamAnswer, IsTeamwork};
+ghost use Rattle.tsn_worker.specs.Team.{IsByTeam, IsTeamAnswer, IsTeamwork};
 ghost use Rattle.tsn_worker.specs.declared.planning.TheConstants.{GOES_ON_FROM};
 
 use crate::deque::DequeBag;
 use crate::learned::{Learned, find_by_learning};
 use crate::searched::{Planned, Searched};
-use crate::telling::tell_bound;
+use crate::task::Task;
+use crate::telling::{tell_bound, tell_found};
 use crate::threads::search;
 use std::alloc::Global;
 use std::marker::Brand;
@@ -50,9 +51,10 @@ pub fn plan<R: Threads + Wait + Sync, S: Supervisor + Sync>(
     requires workers { (1 ≤ workers) × (workers ≤ MAX_WORKERS) }
     requires some { 1 ≤ limit }
     requires few { limit ≤ MAX_LIMIT }
-    ensures optimum { IfOk result (FindsOptimum problem.now.network) }
+    ensures optimum { IfOk result (AnswersOptimum problem.now.network) }
     ensures shown { IfOk result (IsAnswerShown problem.now.network limit) }
     ensures method { IfOk result HasTree }
+    ensures gathered { IfOk result (IsByTeam problem.now.network workers) }
 {
     let effort = Effort {
         method: Method::FileOrder,
@@ -76,11 +78,11 @@ pub fn plan_by<R: Threads + Wait + Sync, S: Supervisor + Sync>(
     requires workers { (1 ≤ effort.workers) × (effort.workers ≤ MAX_WORKERS) }
     requires some { 1 ≤ effort.limit }
     requires few { effort.limit ≤ MAX_LIMIT }
-    ensures optimum { IfOk result (λ planned. FindsOptimum problem.now.network planned.answer) }
+    ensures optimum { IfOk result (λ planned. AnswersOptimum problem.now.network planned.answer) }
     ensures shown { IfOk result (λ planned. IsAnswerShown problem.now.network effort.limit planned.answer) }
     ensures read_again { IfOk result (λ planned. IsAnswerReadAgain planned.answer) }
     ensures method { IfOk result (λ planned. IsAnswerBy effort planned.answer) }
-    ensures gathered { IfOk result (λ planned. IsTeamAnswer effort.workers planned.word planned.answer) }
+    ensures gathered { IfOk result (λ planned. IsTeamAnswer problem.now.network effort.workers planned.word planned.answer) }
 {
     let Searched { found, word } = search_by(rt, alloc, problem, effort, supervisor)?;
     match found.into_answer(alloc) {
@@ -105,13 +107,23 @@ pub fn search_by<R: Threads + Wait + Sync, S: Supervisor + Sync>(
     requires workers { (1 ≤ effort.workers) × (effort.workers ≤ MAX_WORKERS) }
     requires some { 1 ≤ effort.limit }
     requires few { effort.limit ≤ MAX_LIMIT }
+    ensures optimum { IfOk result (λ searched. FindsOptimum problem.now.network searched.found) }
     ensures found { IfOk result (λ searched. IsFound problem.now.network effort.limit searched.found) }
     ensures method { IfOk result (λ searched. IsFoundBy effort searched.found) }
     ensures gathered { IfOk result (λ searched. IsTeamwork effort.workers searched.word searched.found) }
 {
     let prepared = Prepared::of(alloc, problem)?;
     let setting = prepared.setting(alloc, supervisor);
-    let found = search_by_method(rt, problem, &setting, effort);
+    let task = Task {
+        problem,
+        setting: &setting,
+        effort,
+    };
+    let found = search_by_method(rt, &task);
+    if let Ok(searched) = &found {
+        tell_found(&task, &searched.found);
+    }
+    drop(task);
     drop(setting);
     drop(prepared);
     found
@@ -129,13 +141,24 @@ pub fn plan_over<R: Threads + Wait + Sync, S: Supervisor + Sync, B: Bag + Send>(
     requires workers { (2 ≤ length bags.items) × (length bags.items ≤ MAX_WORKERS) }
     requires some { 1 ≤ limit }
     requires few { limit ≤ MAX_LIMIT }
-    ensures optimum { IfOk result (FindsOptimum problem.now.network) }
+    ensures optimum { IfOk result (AnswersOptimum problem.now.network) }
     ensures shown { IfOk result (IsAnswerShown problem.now.network limit) }
     ensures method { IfOk result HasTree }
+    ensures gathered { IfOk result (IsByTeam problem.now.network (length bags.items)) }
 {
     let prepared = Prepared::of(alloc, problem)?;
     let setting = prepared.setting(alloc, supervisor);
-    let found = search_in_bags(rt, &setting, limit, bags);
+    let task = Task {
+        problem,
+        setting: &setting,
+        effort: Effort {
+            method: Method::FileOrder,
+            workers: bags.len(),
+            limit,
+        },
+    };
+    let found = search_in_bags(rt, &task, bags);
+    drop(task);
     drop(setting);
     drop(prepared);
     let Searched { found, word } = found?;
@@ -146,20 +169,19 @@ pub fn plan_over<R: Threads + Wait + Sync, S: Supervisor + Sync, B: Bag + Send>(
 // What 2 to 16 workers find from the root on, one a bag.
 fn search_in_bags<R: Threads + Wait + Sync, S: Supervisor + Sync, B: Bag + Send>(
     rt: &R,
-    setting: &Setting<'_, S>,
-    limit: usize,
+    task: &Task<'_, S>,
     bags: Vec<B>,
 ) -> Result<Searched, NoMemory>
-    requires workers { (2 ≤ length bags.items) × (length bags.items ≤ MAX_WORKERS) }
-    requires some { 1 ≤ limit }
-    requires few { limit ≤ MAX_LIMIT }
-    ensures found { IfOk result (λ searched. IsFound setting.now.tables.timing.now limit searched.found) }
+    requires several { 2 ≤ task.now.effort.workers }
+    requires bags { length bags.items ≡ task.now.effort.workers }
+    ensures found { IfOk result (λ searched. IsFound task.now.setting.now.tables.timing.now task.now.effort.limit searched.found) }
     ensures book { IfOk result (λ searched. HasNoArgument searched.found) }
-    ensures gathered { IfOk result (λ searched. IsTeamwork (length bags.items) searched.word searched.found) }
+    ensures gathered { IfOk result (λ searched. IsTeamwork task.now.effort.workers searched.word searched.found) }
 {
+    let setting = task.setting;
     let known = known_at_root(setting)?;
     setting.supervisor.begin(Phase::File);
-    search_over(rt, setting, known, limit, bags)
+    search_over(rt, task, known, bags)
 }
 
 // What is known before the search, of which the supervisor hears. A bound past the cycle is told as the cycle: the search then finds
@@ -178,100 +200,70 @@ fn known_at_root<S: Supervisor>(setting: &Setting<'_, S>) -> Result<Known, NoMem
 
 fn search_by_method<R: Threads + Wait + Sync, S: Supervisor + Sync>(
     rt: &R,
-    problem: &Problem,
-    setting: &Setting<'_, S>,
-    effort: Effort,
+    task: &Task<'_, S>,
 ) -> Result<Searched, NoMemory>
-    requires workers { (1 ≤ effort.workers) × (effort.workers ≤ MAX_WORKERS) }
-    requires some { 1 ≤ effort.limit }
-    requires few { effort.limit ≤ MAX_LIMIT }
-    requires timing { setting.now.tables.timing.now ≡ problem.now.network }
-    ensures found { IfOk result (λ searched. IsFound setting.now.tables.timing.now effort.limit searched.found) }
-    ensures method { IfOk result (λ searched. IsFoundBy effort searched.found) }
-    ensures gathered { IfOk result (λ searched. IsTeamwork effort.workers searched.word searched.found) }
+    ensures found { IfOk result (λ searched. IsFound task.now.setting.now.tables.timing.now task.now.effort.limit searched.found) }
+    ensures method { IfOk result (λ searched. IsFoundBy task.now.effort searched.found) }
+    ensures gathered { IfOk result (λ searched. IsTeamwork task.now.effort.workers searched.word searched.found) }
 {
-    let known = known_at_root(setting)?;
-    match effort.method {
-        Method::FileOrder => search_in_file_order(rt, setting, known, effort.workers, effort.limit),
-        Method::Learn => search_learning(rt, problem, setting, known, effort.workers, effort.limit),
-        Method::Auto => search_auto(rt, problem, setting, known, effort.workers, effort.limit),
+    let known = known_at_root(task.setting)?;
+    match task.effort.method {
+        Method::FileOrder => search_with(rt, task, Phase::File, known),
+        Method::Learn => search_learning(rt, task, known),
+        Method::Auto => search_auto(rt, task, known),
     }
-}
-
-fn search_in_file_order<R: Threads + Wait + Sync, S: Supervisor + Sync>(
-    rt: &R,
-    setting: &Setting<'_, S>,
-    known: Known,
-    workers: usize,
-    limit: usize,
-) -> Result<Searched, NoMemory>
-    requires workers { (1 ≤ workers) × (workers ≤ MAX_WORKERS) }
-    requires some { 1 ≤ limit }
-    requires few { limit ≤ MAX_LIMIT }
-    requires known { IsKnown setting.now.tables.timing.now known }
-    ensures found { IfOk result (λ searched. IsFound setting.now.tables.timing.now limit searched.found) }
-    ensures kept { IfOk result (λ searched. KeepsKnown known searched.found) }
-    ensures book { IfOk result (λ searched. HasNoArgument searched.found) }
-    ensures gathered { IfOk result (λ searched. IsTeamwork workers searched.word searched.found) }
-{
-    search_with(rt, setting, Phase::File, known, workers, limit)
 }
 
 // What is found in the order of the file, or, where more may be settled than that search may, by the conflict-driven search.
 #[tactic(auto, using(crate::proofs::Teams::alone))]
 fn search_auto<R: Threads + Wait + Sync, S: Supervisor + Sync>(
     rt: &R,
-    problem: &Problem,
-    setting: &Setting<'_, S>,
+    task: &Task<'_, S>,
     known: Known,
-    workers: usize,
-    limit: usize,
 ) -> Result<Searched, NoMemory>
-    requires workers { (1 ≤ workers) × (workers ≤ MAX_WORKERS) }
-    requires some { 1 ≤ limit }
-    requires few { limit ≤ MAX_LIMIT }
-    requires timing { setting.now.tables.timing.now ≡ problem.now.network }
-    requires known { IsKnown setting.now.tables.timing.now known }
-    ensures found { IfOk result (λ searched. IsFound setting.now.tables.timing.now limit searched.found) }
+    requires known { IsKnown task.now.setting.now.tables.timing.now known }
+    ensures found { IfOk result (λ searched. IsFound task.now.setting.now.tables.timing.now task.now.effort.limit searched.found) }
     ensures kept { IfOk result (λ searched. KeepsKnown known searched.found) }
-    ensures method { IfOk result (λ searched. limit ≤ FILE_ORDER_LIMIT → HasNoArgument searched.found) }
-    ensures gathered { IfOk result (λ searched. IsTeamwork workers searched.word searched.found) }
+    ensures method { IfOk result (λ searched. task.now.effort.limit ≤ FILE_ORDER_LIMIT → HasNoArgument searched.found) }
+    ensures gathered { IfOk result (λ searched. IsTeamwork task.now.effort.workers searched.word searched.found) }
 {
-    if limit <= FILE_ORDER_LIMIT {
-        return search_in_file_order(rt, setting, known, workers, limit);
+    if task.effort.limit <= FILE_ORDER_LIMIT {
+        return search_with(rt, task, Phase::File, known);
     }
-    if workers == 1 {
-        return Ok(Searched::alone(search_auto_alone(problem, setting, known, limit)?));
+    if task.effort.workers == 1 {
+        return Ok(Searched::alone(search_auto_alone(task, known)?));
     }
-    let first = search_in_file_order(rt, setting, known, workers, FILE_ORDER_LIMIT)?;
-    search_beyond(rt, problem, setting, first, workers, limit)
+    let begin = Task {
+        problem: task.problem,
+        setting: task.setting,
+        effort: Effort {
+            limit: FILE_ORDER_LIMIT,
+            ..task.effort
+        },
+    };
+    let first = search_with(rt, &begin, Phase::File, known)?;
+    search_beyond(rt, task, first)
 }
 
 // What several workers find, where their first search left this.
 fn search_beyond<R: Threads + Wait + Sync, S: Supervisor + Sync>(
     rt: &R,
-    problem: &Problem,
-    setting: &Setting<'_, S>,
+    task: &Task<'_, S>,
     first: Searched,
-    workers: usize,
-    limit: usize,
 ) -> Result<Searched, NoMemory>
-    requires workers { (1 ≤ workers) × (workers ≤ MAX_WORKERS) }
-    requires some { FILE_ORDER_LIMIT < limit }
-    requires few { limit ≤ MAX_LIMIT }
-    requires timing { setting.now.tables.timing.now ≡ problem.now.network }
-    requires first { IsFound setting.now.tables.timing.now FILE_ORDER_LIMIT first.found }
-    requires gathered { IsTeamwork workers first.word first.found }
-    ensures found { IfOk result (λ searched. IsFound setting.now.tables.timing.now limit searched.found) }
+    requires more { FILE_ORDER_LIMIT < task.now.effort.limit }
+    requires first { IsFound task.now.setting.now.tables.timing.now FILE_ORDER_LIMIT first.found }
+    requires gathered { IsTeamwork task.now.effort.workers first.word first.found }
+    ensures found { IfOk result (λ searched. IsFound task.now.setting.now.tables.timing.now task.now.effort.limit searched.found) }
     ensures kept { IfOk result (λ searched. KeepsFound first.found searched.found) }
-    ensures gathered { IfOk result (λ searched. IsTeamwork workers searched.word searched.found) }
+    ensures gathered { IfOk result (λ searched. IsTeamwork task.now.effort.workers searched.word searched.found) }
 {
     let Searched { found, word } = first;
     match found {
         Found::Stopped(book, known) => {
             drop(book);
             drop(word);
-            search_learning(rt, problem, setting, known, workers, limit)
+            search_learning(rt, task, known)
         }
         Found::Argued(plan, argument) => Ok(Searched {
             found: Found::Argued(plan, argument),
@@ -285,103 +277,79 @@ fn search_beyond<R: Threads + Wait + Sync, S: Supervisor + Sync>(
 }
 
 // What one worker finds in the order of the file, or else by the conflict-driven search.
-fn search_auto_alone<S: Supervisor>(
-    problem: &Problem,
-    setting: &Setting<'_, S>,
-    known: Known,
-    limit: usize,
-) -> Result<Found, NoMemory>
-    requires some { FILE_ORDER_LIMIT < limit }
-    requires few { limit ≤ MAX_LIMIT }
-    requires timing { setting.now.tables.timing.now ≡ problem.now.network }
-    requires known { IsKnown setting.now.tables.timing.now known }
-    ensures found { IfOk result (IsFound setting.now.tables.timing.now limit) }
+fn search_auto_alone<S: Supervisor>(task: &Task<'_, S>, known: Known) -> Result<Found, NoMemory>
+    requires more { FILE_ORDER_LIMIT < task.now.effort.limit }
+    requires known { IsKnown task.now.setting.now.tables.timing.now known }
+    ensures found { IfOk result (IsFound task.now.setting.now.tables.timing.now task.now.effort.limit) }
     ensures kept { IfOk result (KeepsKnown known) }
 {
-    setting.supervisor.begin(Phase::File);
+    let setting = task.setting;
     let timing = setting.tables.timing;
+    let limit = task.effort.limit;
+    setting.supervisor.begin(Phase::File);
     let book = Book::new(setting.alloc, timing, 1, limit)?;
     let book = settle_open(setting, 0, FILE_ORDER_LIMIT, None, book)?;
     if book.open_count() == 0 {
         return Found::of(timing, known, limit, book);
     }
-    search_after(problem, setting, known, limit, book)
+    search_after(task, known, book)
 }
 
 // What one worker finds by the conflict-driven search, once a book keeps some schedule; where that gives up it goes on in the same book,
 // or begins anew.
 fn search_after<S: Supervisor>(
-    problem: &Problem,
-    setting: &Setting<'_, S>,
+    task: &Task<'_, S>,
     known: Known,
-    limit: usize,
     book: Book,
 ) -> Result<Found, NoMemory>
-    requires some { 1 ≤ limit }
-    requires few { limit ≤ MAX_LIMIT }
-    requires timing { setting.now.tables.timing.now ≡ problem.now.network }
-    requires known { IsKnown setting.now.tables.timing.now known }
-    requires search { IsSearchBy setting.now.tables 0 limit book }
-    requires limit { book.limit ≡ limit }
-    ensures found { IfOk result (IsFound setting.now.tables.timing.now limit) }
+    requires known { IsKnown task.now.setting.now.tables.timing.now known }
+    requires search { IsSearchBy task.now.setting.now.tables 0 task.now.effort.limit book }
+    requires limit { book.limit ≡ task.now.effort.limit }
+    ensures found { IfOk result (IsFound task.now.setting.now.tables.timing.now task.now.effort.limit) }
     ensures kept { IfOk result (KeepsKnown known) }
-    ensures kept_book { IfOk result (KeepsKept setting.now.tables.timing.now book) }
-    ensures goes_on { GOES_ON_FROM ≤ limit → IfOk result (GoesOn book) }
+    ensures kept_book { IfOk result (KeepsKept task.now.setting.now.tables.timing.now book) }
+    ensures goes_on { GOES_ON_FROM ≤ task.now.effort.limit → IfOk result (GoesOn 0 book) }
 {
     let known = known.with_kept(&book)?;
-    match find_by_learning(setting, problem, limit, known) {
+    match find_by_learning(task, known) {
         Learned::Shown(plan, argument) => {
             drop(book);
             Ok(Found::Argued(plan, argument))
         }
-        Learned::Open(known) => go_on(setting, known, limit, book),
+        Learned::Open(known) => go_on(task, known, book),
     }
 }
 
 // What the caller finds alone in a book in which something is settled, or, where too few nodes are left for that, from the root on.
-fn go_on<S: Supervisor>(
-    setting: &Setting<'_, S>,
-    known: Known,
-    limit: usize,
-    book: Book,
-) -> Result<Found, NoMemory>
-    requires some { 1 ≤ limit }
-    requires few { limit ≤ MAX_LIMIT }
-    requires search { IsSearchBy setting.now.tables 0 limit book }
-    requires limit { book.limit ≡ limit }
-    requires known { IsKnown setting.now.tables.timing.now known }
-    ensures found { IfOk result (IsFound setting.now.tables.timing.now limit) }
+fn go_on<S: Supervisor>(task: &Task<'_, S>, known: Known, book: Book) -> Result<Found, NoMemory>
+    requires search { IsSearchBy task.now.setting.now.tables 0 task.now.effort.limit book }
+    requires limit { book.limit ≡ task.now.effort.limit }
+    requires known { IsKnown task.now.setting.now.tables.timing.now known }
+    ensures found { IfOk result (IsFound task.now.setting.now.tables.timing.now task.now.effort.limit) }
     ensures kept { IfOk result (KeepsKnown known) }
-    ensures goes_on { GOES_ON_FROM ≤ limit → IfOk result (GoesOn book) }
+    ensures goes_on { GOES_ON_FROM ≤ task.now.effort.limit → IfOk result (GoesOn 0 book) }
 {
-    if limit < GOES_ON_FROM {
+    if task.effort.limit < GOES_ON_FROM {
         drop(book);
-        return search_alone(setting, Phase::File, known, limit);
+        return search_alone(task, Phase::File, known);
     }
-    search_from(setting, Phase::Along, known, limit, book)
+    search_from(task, Phase::Along, known, book)
 }
 
 // What is found by the conflict-driven search, or else in the order of the file, along the best schedule that is known.
 fn search_learning<R: Threads + Wait + Sync, S: Supervisor + Sync>(
     rt: &R,
-    problem: &Problem,
-    setting: &Setting<'_, S>,
+    task: &Task<'_, S>,
     known: Known,
-    workers: usize,
-    limit: usize,
 ) -> Result<Searched, NoMemory>
-    requires workers { (1 ≤ workers) × (workers ≤ MAX_WORKERS) }
-    requires some { 1 ≤ limit }
-    requires few { limit ≤ MAX_LIMIT }
-    requires timing { setting.now.tables.timing.now ≡ problem.now.network }
-    requires known { IsKnown setting.now.tables.timing.now known }
-    ensures found { IfOk result (λ searched. IsFound setting.now.tables.timing.now limit searched.found) }
+    requires known { IsKnown task.now.setting.now.tables.timing.now known }
+    ensures found { IfOk result (λ searched. IsFound task.now.setting.now.tables.timing.now task.now.effort.limit searched.found) }
     ensures kept { IfOk result (λ searched. KeepsKnown known searched.found) }
-    ensures gathered { IfOk result (λ searched. IsTeamwork workers searched.word searched.found) }
+    ensures gathered { IfOk result (λ searched. IsTeamwork task.now.effort.workers searched.word searched.found) }
 {
-    match find_by_learning(setting, problem, limit, known) {
+    match find_by_learning(task, known) {
         Learned::Shown(plan, argument) => Ok(Searched::alone(Found::Argued(plan, argument))),
-        Learned::Open(known) => search_with(rt, setting, Phase::Along, known, workers, limit),
+        Learned::Open(known) => search_with(rt, task, Phase::Along, known),
     }
 }
 
@@ -389,51 +357,51 @@ fn search_learning<R: Threads + Wait + Sync, S: Supervisor + Sync>(
 #[tactic(auto, using(crate::proofs::Teams::alone))]
 fn search_with<R: Threads + Wait + Sync, S: Supervisor + Sync>(
     rt: &R,
-    setting: &Setting<'_, S>,
+    task: &Task<'_, S>,
     phase: Phase,
     known: Known,
-    workers: usize,
-    limit: usize,
 ) -> Result<Searched, NoMemory>
-    requires workers { (1 ≤ workers) × (workers ≤ MAX_WORKERS) }
-    requires some { 1 ≤ limit }
-    requires few { limit ≤ MAX_LIMIT }
-    requires known { IsKnown setting.now.tables.timing.now known }
-    ensures found { IfOk result (λ searched. IsFound setting.now.tables.timing.now limit searched.found) }
+    requires known { IsKnown task.now.setting.now.tables.timing.now known }
+    ensures found { IfOk result (λ searched. IsFound task.now.setting.now.tables.timing.now task.now.effort.limit searched.found) }
     ensures kept { IfOk result (λ searched. KeepsKnown known searched.found) }
     ensures book { IfOk result (λ searched. HasNoArgument searched.found) }
-    ensures gathered { IfOk result (λ searched. IsTeamwork workers searched.word searched.found) }
+    ensures gathered { IfOk result (λ searched. IsTeamwork task.now.effort.workers searched.word searched.found) }
 {
-    if workers == 1 {
-        return Ok(Searched::alone(search_alone(setting, phase, known, limit)?));
+    if task.effort.workers == 1 {
+        return Ok(Searched::alone(search_alone(task, phase, known)?));
     }
+    let setting = task.setting;
     setting.supervisor.begin(phase);
-    let bags = DequeBag::make(setting.alloc, workers)?;
-    search_over(rt, setting, known, limit, bags)
+    let bags = DequeBag::make(setting.alloc, task.effort.workers)?;
+    search_over(rt, task, known, bags)
 }
 
 // What 2 to 16 workers find, one a bag.
 #[tactic(auto, using(crate::proofs::Teams::together))]
 fn search_over<R: Threads + Wait + Sync, S: Supervisor + Sync, B: Bag + Send>(
     rt: &R,
-    setting: &Setting<'_, S>,
+    task: &Task<'_, S>,
     known: Known,
-    limit: usize,
     bags: Vec<B>,
 ) -> Result<Searched, NoMemory>
-    requires workers { (2 ≤ length bags.items) × (length bags.items ≤ MAX_WORKERS) }
-    requires some { 1 ≤ limit }
-    requires few { limit ≤ MAX_LIMIT }
-    requires known { IsKnown setting.now.tables.timing.now known }
-    ensures found { IfOk result (λ searched. IsFound setting.now.tables.timing.now limit searched.found) }
+    requires several { 2 ≤ task.now.effort.workers }
+    requires bags { length bags.items ≡ task.now.effort.workers }
+    requires known { IsKnown task.now.setting.now.tables.timing.now known }
+    ensures found { IfOk result (λ searched. IsFound task.now.setting.now.tables.timing.now task.now.effort.limit searched.found) }
     ensures kept { IfOk result (λ searched. KeepsKnown known searched.found) }
     ensures book { IfOk result (λ searched. HasNoArgument searched.found) }
-    ensures gathered { IfOk result (λ searched. IsTeamwork (length bags.items) searched.word searched.found) }
+    ensures gathered { IfOk result (λ searched. IsTeamwork task.now.effort.workers searched.word searched.found) }
 {
-    let workers = bags.len();
-    let parts = Parts::new(setting.alloc, setting.tables.timing, workers + 1, limit)?;
+    let setting = task.setting;
+    let timing = setting.tables.timing;
+    let parts = Parts::new(
+        setting.alloc,
+        timing,
+        task.effort.workers + 1,
+        task.effort.limit,
+    )?;
     let (word, gathered) = search::<Brand, R, S, B>(rt, setting, bags, parts, known.offsets())?;
-    match finish(setting, known, limit, workers, gathered) {
+    match finish(task, known, gathered) {
         Ok(found) => Ok(Searched {
             found,
             word: Some(word),
@@ -445,60 +413,59 @@ fn search_over<R: Threads + Wait + Sync, S: Supervisor + Sync, B: Bag + Send>(
     }
 }
 
-// What is found where the caller goes on alone in the book that so many workers and it have gathered.
+// What is found where the caller goes on alone in the book that the workers and it have gathered.
 fn finish<S: Supervisor>(
-    setting: &Setting<'_, S>,
+    task: &Task<'_, S>,
     known: Known,
-    limit: usize,
-    workers: usize,
     gathered: Book,
 ) -> Result<Found, NoMemory>
-    requires search { IsSearchBy setting.now.tables workers limit gathered }
-    requires limit { gathered.limit ≡ limit }
-    requires known { IsKnown setting.now.tables.timing.now known }
-    ensures found { IfOk result (IsFound setting.now.tables.timing.now limit) }
+    requires search { IsSearchBy task.now.setting.now.tables task.now.effort.workers task.now.effort.limit gathered }
+    requires limit { gathered.limit ≡ task.now.effort.limit }
+    requires known { IsKnown task.now.setting.now.tables.timing.now known }
+    ensures found { IfOk result (IsFound task.now.setting.now.tables.timing.now task.now.effort.limit) }
     ensures kept { IfOk result (KeepsKnown known) }
     ensures book { IfOk result HasNoArgument }
-    ensures goes_on { IfOk result (GoesOn gathered) }
+    ensures goes_on { IfOk result (GoesOn task.now.effort.workers gathered) }
 {
-    let book = settle_open(setting, workers, limit, None, gathered)?;
+    let setting = task.setting;
+    let limit = task.effort.limit;
+    let book = settle_open(setting, task.effort.workers, limit, None, gathered)?;
     Found::of(setting.tables.timing, known, limit, book)
 }
 
 // What the caller finds alone in a phase, from the root on.
 fn search_alone<S: Supervisor>(
-    setting: &Setting<'_, S>,
+    task: &Task<'_, S>,
     phase: Phase,
     known: Known,
-    limit: usize,
 ) -> Result<Found, NoMemory>
-    requires some { 1 ≤ limit }
-    requires few { limit ≤ MAX_LIMIT }
-    requires known { IsKnown setting.now.tables.timing.now known }
-    ensures found { IfOk result (IsFound setting.now.tables.timing.now limit) }
+    requires known { IsKnown task.now.setting.now.tables.timing.now known }
+    ensures found { IfOk result (IsFound task.now.setting.now.tables.timing.now task.now.effort.limit) }
     ensures kept { IfOk result (KeepsKnown known) }
     ensures book { IfOk result HasNoArgument }
 {
-    let book = Book::new(setting.alloc, setting.tables.timing, 1, limit)?;
-    search_from(setting, phase, known, limit, book)
+    let setting = task.setting;
+    let book = Book::new(setting.alloc, setting.tables.timing, 1, task.effort.limit)?;
+    search_from(task, phase, known, book)
 }
 
 // What the caller finds alone in a book, along the best schedule that is known. The supervisor hears that the phase begins.
 fn search_from<S: Supervisor>(
-    setting: &Setting<'_, S>,
+    task: &Task<'_, S>,
     phase: Phase,
     known: Known,
-    limit: usize,
     book: Book,
 ) -> Result<Found, NoMemory>
-    requires search { IsSearchBy setting.now.tables 0 limit book }
-    requires limit { book.limit ≡ limit }
-    requires known { IsKnown setting.now.tables.timing.now known }
-    ensures found { IfOk result (IsFound setting.now.tables.timing.now limit) }
+    requires search { IsSearchBy task.now.setting.now.tables 0 task.now.effort.limit book }
+    requires limit { book.limit ≡ task.now.effort.limit }
+    requires known { IsKnown task.now.setting.now.tables.timing.now known }
+    ensures found { IfOk result (IsFound task.now.setting.now.tables.timing.now task.now.effort.limit) }
     ensures kept { IfOk result (KeepsKnown known) }
     ensures book { IfOk result HasNoArgument }
-    ensures goes_on { IfOk result (GoesOn book) }
+    ensures goes_on { IfOk result (GoesOn 0 book) }
 {
+    let setting = task.setting;
+    let limit = task.effort.limit;
     setting.supervisor.begin(phase);
     let book = settle_open(setting, 0, limit, known.offsets(), book)?;
     Found::of(setting.tables.timing, known, limit, book)

@@ -67,7 +67,7 @@ fn begun(alloc: Global, network: &[u8], events: usize) -> Option<(Conflicts, Boo
 
 fn timing_of(alloc: Global, network: &[u8]) -> Option<Timing> {
     let problem = read_problem(alloc, network).ok()?;
-    let timing = problem.timing(alloc).ok();
+    let timing = problem.timing().copy(alloc).ok();
     drop(problem);
     timing
 }

@@ -49,16 +49,13 @@ fn push_invalid(
     offsets: &[u64],
     violation: Violation,
 ) -> Result<(), NoMemory> {
-    let timing = problem.timing(alloc)?;
     let schedule = Schedule {
         problem,
-        timing: &timing,
+        timing: problem.timing(),
         offsets,
     };
     text.push_str("no valid schedule: ")?;
-    let pushed = push_violation(text, schedule, violation);
-    drop(timing);
-    Ok(pushed?)
+    Ok(push_violation(text, schedule, violation)?)
 }
 
 /// Writes what the target is, and has to be.

@@ -29,8 +29,8 @@ pub struct Play<'a> {
 fn valid_of(alloc: Global, problem: &Problem, offsets: &[u64]) -> Option<Valid>
     ensures { IfSome result (λ valid. IsValid problem.now.network valid) }
 {
-    let timing = problem.timing(alloc).ok()?;
-    timing.valid(Vec::from_slice(alloc, offsets).ok()?).ok()
+    let offsets = Vec::from_slice(alloc, offsets).ok()?;
+    problem.timing().valid(offsets).ok()
 }
 
 /// The lists that a network asks for.

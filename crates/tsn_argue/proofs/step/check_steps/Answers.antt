@@ -17,7 +17,7 @@ take-requires-clause-aim g c = subst (λ n. IsAim n c.args.aim.now) (sym c.loop-
 pub loop-number-init : goal.loop-number-init
 loop-number-init g c = record {
   reached = reached_first c.args.timing.now (goal_of c.args.aim.now) c.in_ok-known.known c.args.steps.now c.in_ok-known.ensures;
-  told = no_steps c.args.timing.now (goal_of c.args.aim.now) (g.L.Listener.heard c.args.listener.now);
+  told = no_steps c.args.timing.now (goal_of c.args.aim.now) (g.L.Observer.heard c.args.observer.now);
 }
 
 pub loop-number-preserved : goal.loop-number-preserved
@@ -26,7 +26,7 @@ loop-number-preserved g c = record {
       c.loop-number.number c.index-steps-number.result
       c.loop-number-test.true c.index-steps-number.is c.loop-number.invariant.reached c.in_default.ensures.taken;
   told = more_steps c.args.timing.now (goal_of c.args.aim.now) c.loop-number.known c.args.steps.now c.loop-number.number c.index-steps-number.result
-      (g.L.Listener.heard c.args.listener.now) (g.L.Listener.heard c.loop-number.listener) (g.L.Listener.heard c.take.new.listener)
+      (g.L.Observer.heard c.args.observer.now) (g.L.Observer.heard c.loop-number.observer) (g.L.Observer.heard c.take.new.observer)
       c.loop-number-test.true c.index-steps-number.is c.loop-number.invariant.reached c.loop-number.invariant.told c.in_default.ensures.told;
 }
 

@@ -9,6 +9,6 @@ use Rattle.tsn_argue.proofs.step.check_steps.Given as goal
 abbrev pub invariant-loop-number : goal.invariant-loop-number
 invariant-loop-number g l = record {
   reached : Reached l.timing (goal_of l.aim) l.known l.steps l.number;
-  told : g.L.Listener.heard l.listener ≡ with_told (g.L.Listener.heard l.initial.listener)
+  told : g.L.Observer.heard l.observer ≡ with_told (g.L.Observer.heard l.initial.observer)
       (told_steps l.timing (goal_of l.aim) (first_known l.timing (goal_of l.aim)) (map step_of (take l.number l.steps)));
 }

@@ -9,7 +9,7 @@ pub loop-number-init : goal.loop-number-init
 loop-number-init g c = record {
   allowed = tt;
   becomes = none_made c.args.view.now (clauses_of c.args.clauses.now) c.requires.sound;
-  told = no_moves c.args.view.now.timing.now (clauses_of c.args.clauses.now) (view_of c.args.view.now) (g.L.Listener.heard c.args.listener.now);
+  told = no_moves c.args.view.now.timing.now (clauses_of c.args.clauses.now) (view_of c.args.view.now) (g.L.Observer.heard c.args.observer.now);
 }
 
 pub returns-in_err-make-clause-taken : goal.returns-in_err-make-clause-taken
@@ -29,6 +29,6 @@ loop-number-preserved g c =
       allowed = more.0;
       becomes = more.1;
       told = more_moves c.args.view.now c.loop-number.view (clauses_of c.args.clauses.now) c.args.moves.now c.loop-number.number c.index-moves-number.result
-          (g.L.Listener.heard c.args.listener.now) (g.L.Listener.heard c.loop-number.listener) (g.L.Listener.heard c.make.new.listener)
+          (g.L.Observer.heard c.args.observer.now) (g.L.Observer.heard c.loop-number.observer) (g.L.Observer.heard c.make.new.observer)
           c.loop-number-test.true c.index-moves-number.is c.loop-number.invariant.becomes c.loop-number.invariant.told c.in_ok-make.ensures.told;
     }

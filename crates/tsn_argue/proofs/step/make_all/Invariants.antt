@@ -11,6 +11,6 @@ invariant-loop-number g l = record {
   allowed : AreAllowed l.initial.view.timing.now (clauses_of l.clauses) (view_of l.initial.view) (map move_of (take l.number l.moves));
   becomes : Becomes l.initial.view l.view (narrowed l.initial.view.timing.now (clauses_of l.clauses) (view_of l.initial.view)
       (map move_of (take l.number l.moves)));
-  told : g.L.Listener.heard l.listener ≡ with_told (g.L.Listener.heard l.initial.listener)
+  told : g.L.Observer.heard l.observer ≡ with_told (g.L.Observer.heard l.initial.observer)
       (told_moves l.initial.view.timing.now (clauses_of l.clauses) (view_of l.initial.view) (map move_of (take l.number l.moves)));
 }

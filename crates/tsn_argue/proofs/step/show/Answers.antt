@@ -56,13 +56,13 @@ returns-else-view-2-clause-shows g c =
 pub returns-then-is_empty-clause-told : goal.returns-then-is_empty-clause-told
 returns-then-is_empty-clause-told g c =
     shown_told c.args.view.now c.suppose.new.view (clauses_of c.args.clauses.now) (step_of c.args.step.now)
-    (g.L.Listener.heard c.args.listener.now) (g.L.Listener.heard c.begin.new.self) (g.L.Listener.heard c.make_all.new.listener) _ c.requires.ready
+    (g.L.Observer.heard c.args.observer.now) (g.L.Observer.heard c.begin.new.self) (g.L.Observer.heard c.make_all.new.observer) _ c.requires.ready
     (supposed_of c.args.view.now c.suppose.new.view _ _ c.list-clause.ensures c.in_ok-suppose.ensures) (ap (map move_of) c.list.ensures)
     c.begin.ensures c.in_ok-make_all.ensures.told
 
 pub returns-then-view-2-clause-told : goal.returns-then-view-2-clause-told
 returns-then-view-2-clause-told g c =
     shown_told c.args.view.now c.suppose.new.view (clauses_of c.args.clauses.now) (step_of c.args.step.now)
-    (g.L.Listener.heard c.args.listener.now) (g.L.Listener.heard c.begin.new.self) (g.L.Listener.heard c.make_all.new.listener) _ c.requires.ready
+    (g.L.Observer.heard c.args.observer.now) (g.L.Observer.heard c.begin.new.self) (g.L.Observer.heard c.make_all.new.observer) _ c.requires.ready
     (supposed_of c.args.view.now c.suppose.new.view _ _ c.list-clause.ensures c.in_ok-suppose.ensures) (ap (map move_of) c.list.ensures)
     c.begin.ensures c.in_ok-make_all.ensures.told

@@ -1,17 +1,12 @@
-use Rattle.std.proofs.Common.{◌≤◌, ◌<◌, List, length, ℕ, All, sym, ap, ◌∙◌, subst, arith}
+use Rattle.std.proofs.Common.{◌≤◌, List, length, ℕ, All, sym, ap, ◌∙◌, subst, arith}
 use Rattle.std.specs.Prelude.{option_copied, IfNone, IfSome}
-use Rattle.tsn_model.specs.declared.Triple.{Triple}
-use Rattle.tsn_model.specs.Schedule.{IsFirstOverlap}
-use Rattle.tsn_model.specs.Arcs.{conflicts_of}
-use Rattle.tsn_conflict.specs.Raised.{OnlyRaisedOverlap, triple_at}
+use Rattle.std.proofs.lemmas.Result.{IfOk-weaker}
 use Rattle.tsn_branch.specs.Links.{shared_links, IsUnloaded}
 use Rattle.tsn_branch.specs.Loads.{IsFirstLoad, IsTightest}
 use Rattle.tsn_branch.specs.Ends.{AreEnds}
 use Rattle.tsn_branch.specs.Look.{IsFirstOverrun, IsShownBy, IsUntied}
-use Rattle.tsn_branch.proofs.Leasts.{count, AreLeast-from, IsShownBy-from, small_offsets, least_same}
-use Rattle.tsn_node.specs.Outcome.{outcome_of}
-use Rattle.tsn_branch.specs.Descent.{IsSplitPointBy, IsSolution, IsTieBy}
-use Rattle.tsn_branch.proofs.Judgements.{solution_found}
+use Rattle.tsn_branch.proofs.Leasts.{count, AreLeast-from, IsShownBy-from, small_offsets}
+use Rattle.tsn_branch.specs.Descent.{IsTieBy}
 use Rattle.tsn_branch.proofs.Tied.{tightest_for}
 use Rattle.tsn_branch.proofs.judge.judge_known.Goals as goal
 
@@ -77,63 +72,6 @@ returns-in-Closed c =
     let found = subst (λ (list : List ℕ). IsFirstLoad network list c.args.aim.target c.in-Closed.found) c.offsets.ensures c.in-Closed.ensures in
     (c.in_ok-look-in-Closed.ensures.closes, c.in_ok-look-in-Closed.ensures.look path c.args.aim.target solves fit (omega (arith, end, c.if-end-aim.false)) found (option_copied c.args.aim.best))
 
-pub first_violated_from-requires-clause-small : goal.first_violated_from-requires-clause-small
-first_violated_from-requires-clause-small c =
-    let network = c.args.tables.timing.now in
-    let path = c.requires.some_path in
-    let (fit, last, end) = subst (AreEnds network c.args.least.now.offsets) c.in-Within.is c.requires.ends in
-    subst (All (λ offset. offset ≤ 1000000000)) (sym c.offsets-2.ensures)
-    (small_offsets network c.args.least.now.offsets c.args.tables.right_conflicts.formed (count network path.0 c.args.least.now path.1) fit)
-
-pub first_violated_from-requires-clause-apart_before : goal.first_violated_from-requires-clause-apart_before
-first_violated_from-requires-clause-apart_before c = subst (λ (offsets : List ℕ). OnlyRaisedOverlap c.args.tables.conflicts.now offsets c.args.known.raised.now c.args.known.start) (sym c.offsets-2.ensures) c.requires.apart
-
-pub returns-in-Some-first_violated_from : goal.returns-in-Some-first_violated_from
-returns-in-Some-first_violated_from c =
-    λ path solves.
-    let network = c.args.tables.timing.now in
-    let lowest = c.args.least.now in
-    let conflicts = c.args.tables.right_conflicts in
-    let ends = subst (AreEnds network lowest.offsets) c.in-Within.is c.requires.ends in
-    let (fit, last, end) = ends in
-    let found = c.in-Some-first_violated_from.ensures network conflicts in
-    let triple = c.in-Some-first_violated_from.triple in
-    let overlap : IsFirstOverlap network lowest.offsets (triple_at (conflicts_of network) triple) =
-    subst (λ (ts : List Triple). IsFirstOverlap network lowest.offsets (triple_at ts triple)) conflicts.triples
-    (subst (λ (offsets : List ℕ). IsFirstOverlap network offsets (triple_at c.args.tables.conflicts.now.triples triple)) c.offsets-2.ensures found.1) in
-    let unloaded = subst (λ (offsets : List ℕ). All (IsUnloaded network offsets c.args.aim.target) (shared_links network)) c.offsets.ensures c.in-Open.ensures.0 in
-    let untied = subst (λ o. IfNone o (IsUntied network lowest.offsets (option_copied c.args.aim.best))) c.in_default.is c.in_ok-tie.ensures.none in
-    let least = AreLeast-from network path lowest solves in (
-      record {
-        within = subst (λ (ts : List Triple). triple < length ts) conflicts.triples found.0;
-        by_least = λ offsets other.
-            subst (λ list. IsSplitPointBy network list (record { triple = triple; last = c.in-Within.last; end = c.in-Within.end })) (least_same network path lowest.offsets offsets least other)
-            (record { ended = record { fit = fit; last_first = last; end_is = end }; overlap = overlap });
-      },
-      (lowest.offsets, least, fit, omega (arith, end, c.if-end-aim.false), overlap, unloaded, untied),
-    )
-
-pub returns : goal.returns
-returns c =
-    λ path solves.
-    let network = c.args.tables.timing.now in
-    let lowest = c.args.least.now in
-    let (fit, last, end) = subst (AreEnds network lowest.offsets) c.in-Within.is c.requires.ends in
-    let unloaded = subst (λ (offsets : List ℕ). All (IsUnloaded network offsets c.args.aim.target) (shared_links network)) c.offsets.ensures c.in-Open.ensures.0 in
-    let untied = subst (λ o. IfNone o (IsUntied network lowest.offsets (option_copied c.args.aim.best))) c.in_default.is c.in_ok-tie.ensures.none in
-    solution_found network path lowest.offsets c.in-Within.end c.args.aim.target (option_copied c.args.aim.best) (outcome_of c.in_ok-look.look) (omega (arith, c.if-end-aim.false)) (AreLeast-from network path lowest solves) unloaded untied
-    (subst (λ n. IsSolution network path n (outcome_of c.in_ok-look.look)) (sym end) (c.in_ok-look.ensures path solves))
-
-pub solved-requires-clause-fit : goal.solved-requires-clause-fit
-solved-requires-clause-fit c =
-    let (fit, last, end) = subst (AreEnds c.args.tables.timing.now c.args.least.now.offsets) c.in-Within.is c.requires.ends in
-    fit
-
-pub solved-requires-clause-last : goal.solved-requires-clause-last
-solved-requires-clause-last c =
-    let (fit, last, end) = subst (AreEnds c.args.tables.timing.now c.args.least.now.offsets) c.in-Within.is c.requires.ends in
-    last
-
 pub find_tie-requires-clause-within : goal.find_tie-requires-clause-within
 find_tie-requires-clause-within c =
     (c.args.aim.target, subst (λ (offsets : List ℕ). All (IsUnloaded c.args.tables.timing.now offsets c.args.aim.target) (shared_links c.args.tables.timing.now)) c.offsets.ensures c.in-Open.ensures.0)
@@ -151,5 +89,18 @@ returns-in-Some c =
     let lowest = c.args.least.now in
     let (fit, last, end) = subst (AreEnds network lowest.offsets) c.in-Within.is c.requires.ends in
     let unloaded = subst (λ (offsets : List ℕ). All (IsUnloaded network offsets c.args.aim.target) (shared_links network)) c.offsets.ensures c.in-Open.ensures.0 in
-    let found = subst (λ o. IfSome o (IsTieBy network lowest (option_copied c.args.aim.best))) c.in-Some.is c.in_ok-tie.ensures.some in
+    let found = subst (λ o. IfSome o (IsTieBy network lowest (option_copied c.args.aim.best))) c.in-Some.is c.in_ok-look.ensures.some in
     (found.0, found.1 path c.args.aim.target solves (omega (arith, end, c.if-end-aim.false)) unloaded)
+
+pub judge_untied-requires-clause-ends : goal.judge_untied-requires-clause-ends
+judge_untied-requires-clause-ends c = subst (AreEnds c.args.tables.timing.now c.args.least.now.offsets) c.in-Within.is c.requires.ends
+
+pub returns : goal.returns
+returns c =
+    let network = c.args.tables.timing.now in
+    let lowest = c.args.least.now in
+    let unloaded = subst (λ (offsets : List ℕ). All (IsUnloaded network offsets c.args.aim.target) (shared_links network)) c.offsets.ensures c.in-Open.ensures.0 in
+    let untied = subst (λ o. IfNone o (IsUntied network lowest.offsets (option_copied c.args.aim.best))) c.in_default.is c.in_ok-look.ensures.none in
+    IfOk-weaker c.judge_untied.result _ _
+    (λ judgement is path solves. is path c.args.aim.target (option_copied c.args.aim.best) solves (omega (arith, c.if-end-aim.false)) unloaded untied)
+    c.judge_untied.ensures

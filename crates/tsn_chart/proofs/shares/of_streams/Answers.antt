@@ -9,8 +9,8 @@ pub returns-clause-named : goal.returns-clause-named
 returns-clause-named c =
     let network = c.args.problem.now.network in
     let offsets = c.args.valid.now in
-    IfOk-weaker c.stream_shares-shares.result (λ shares. shares.items ≡ stream_shares c.in_ok-timing.timing offsets) _
+    IfOk-weaker c.stream_shares.result (λ shares. shares.items ≡ stream_shares c.timing.result.now offsets) _
     (λ shares is. subst (λ xs. All (λ (share : StreamShare). share.stream < length c.args.problem.now.stream_names) xs)
-    (sym (is ∙ ap (λ n. stream_shares n offsets) c.in_ok-timing.ensures))
+    (sym (is ∙ ap (λ n. stream_shares n offsets) c.timing.ensures))
     (shares_named network offsets _ (sym c.streams-streams.ensures.count ∙ c.streams-streams.ensures.named)))
-    c.stream_shares-shares.ensures
+    c.stream_shares.ensures

@@ -7,8 +7,8 @@ use Rattle.tsn_check.proofs.verdict.judge_tree.Goals as goal
 
 pub returns-in_err-judge_claim-clause-complete : goal.returns-in_err-judge_claim-clause-complete
 returns-in_err-judge_claim-clause-complete c certifies =
-    absurd (claim_refutes c.in_ok-timing.timing c.args.plan.now c.in_err-judge_claim.field-0.0 c.in_err-judge_claim.ensures.fault
-    (subst (λ n. IsPlanRight n c.args.plan.now) (sym c.in_ok-timing.ensures) certifies.plan_right))
+    absurd (claim_refutes c.timing-timing.result.now c.args.plan.now c.in_err-judge_claim.field-0.0 c.in_err-judge_claim.ensures.fault
+    (subst (λ n. IsPlanRight n c.args.plan.now) (sym c.timing-timing.ensures) certifies.plan_right))
 
 pub returns-in_err-check_nodes-clause-complete : goal.returns-in_err-check_nodes-clause-complete
 returns-in_err-check_nodes-clause-complete c certifies =
@@ -16,9 +16,9 @@ returns-in_err-check_nodes-clause-complete c certifies =
     rw (p.1, p.2) (elim c.in_err-check_nodes.ensures.err [
       | inl memory ↦ memory
       | inr fault ↦ absurd (why_refutes c.args.problem.now.network c.args.plan.now c.args.cert.now c.in_err-check_nodes.field-0.0
-          (tree_fault_first c.args.problem.now.network c.in_ok-timing.timing c.args.plan.now c.args.cert.now c.target_of-wanted.result _
+          (tree_fault_first c.args.problem.now.network c.timing-timing.result.now c.args.plan.now c.args.cert.now c.target_of-wanted.result _
           c.in_err-check_nodes.field-0.0
-          c.in_ok-timing.ensures c.target_of-wanted.ensures c.if-stated-wanted.false c.list.ensures fault) certifies)
+          c.timing-timing.ensures c.target_of-wanted.ensures c.if-stated-wanted.false c.list.ensures fault) certifies)
     ])
 
 pub returns-in_err-check_nodes-clause-fault : goal.returns-in_err-check_nodes-clause-fault
@@ -26,40 +26,40 @@ returns-in_err-check_nodes-clause-fault c =
     let p = err_from_is_err_and c.from_residual-in_err-check_nodes.result c.from_residual-in_err-check_nodes.ensures.1 in
     rw (p.1, p.2) (elim c.in_err-check_nodes.ensures.err [
       | inl memory ↦ inl memory
-      | inr fault ↦ inr (tree_fault_first c.args.problem.now.network c.in_ok-timing.timing c.args.plan.now c.args.cert.now c.target_of-wanted.result _
+      | inr fault ↦ inr (tree_fault_first c.args.problem.now.network c.timing-timing.result.now c.args.plan.now c.args.cert.now c.target_of-wanted.result _
           c.in_err-check_nodes.field-0.0
-          c.in_ok-timing.ensures c.target_of-wanted.ensures c.if-stated-wanted.false c.list.ensures fault)
+          c.timing-timing.ensures c.target_of-wanted.ensures c.if-stated-wanted.false c.list.ensures fault)
     ])
 
 pub returns-clause-accepted : goal.returns-clause-accepted
 returns-clause-accepted c =
-    checked c.args.problem.now.network c.in_ok-timing.timing c.args.plan.now c.args.cert.now c.target_of-wanted.result _ c.in_ok-timing.ensures
+    checked c.args.problem.now.network c.timing-timing.result.now c.args.plan.now c.args.cert.now c.target_of-wanted.result _ c.timing-timing.ensures
     c.target_of-wanted.ensures
     c.if-stated-wanted.false c.list.ensures c.in_ok-check_nodes.ensures.ok
 
 pub returns-clause-optimal : goal.returns-clause-optimal
 returns-clause-optimal c is =
-    let certifies = checked c.args.problem.now.network c.in_ok-timing.timing c.args.plan.now c.args.cert.now c.target_of-wanted.result _
-    c.in_ok-timing.ensures c.target_of-wanted.ensures
+    let certifies = checked c.args.problem.now.network c.timing-timing.result.now c.args.plan.now c.args.cert.now c.target_of-wanted.result _
+    c.timing-timing.ensures c.target_of-wanted.ensures
     c.if-stated-wanted.false c.list.ensures c.in_ok-check_nodes.ensures.ok in
-    shown_optimal c.args.problem.now.network c.in_ok-timing.timing c.args.plan.now c.args.cert.now c.target_of-wanted.result c.in_ok-timing.ensures
+    shown_optimal c.args.problem.now.network c.timing-timing.result.now c.args.plan.now c.args.cert.now c.target_of-wanted.result c.timing-timing.ensures
     c.target_of-wanted.ensures
     certifies (sym c.verdict_on.ensures ∙ cc is)
 
 pub returns-clause-first : goal.returns-clause-first
 returns-clause-first c is =
-    let certifies = checked c.args.problem.now.network c.in_ok-timing.timing c.args.plan.now c.args.cert.now c.target_of-wanted.result _
-    c.in_ok-timing.ensures c.target_of-wanted.ensures
+    let certifies = checked c.args.problem.now.network c.timing-timing.result.now c.args.plan.now c.args.cert.now c.target_of-wanted.result _
+    c.timing-timing.ensures c.target_of-wanted.ensures
     c.if-stated-wanted.false c.list.ensures c.in_ok-check_nodes.ensures.ok in
-    shown_first c.args.problem.now.network c.in_ok-timing.timing c.args.plan.now c.args.cert.now c.target_of-wanted.result c.in_ok-timing.ensures
+    shown_first c.args.problem.now.network c.timing-timing.result.now c.args.plan.now c.args.cert.now c.target_of-wanted.result c.timing-timing.ensures
     c.target_of-wanted.ensures
     certifies (sym c.verdict_on.ensures ∙ cc is)
 
 pub returns-clause-no_schedule : goal.returns-clause-no_schedule
 returns-clause-no_schedule c is =
-    let certifies = checked c.args.problem.now.network c.in_ok-timing.timing c.args.plan.now c.args.cert.now c.target_of-wanted.result _
-    c.in_ok-timing.ensures c.target_of-wanted.ensures
+    let certifies = checked c.args.problem.now.network c.timing-timing.result.now c.args.plan.now c.args.cert.now c.target_of-wanted.result _
+    c.timing-timing.ensures c.target_of-wanted.ensures
     c.if-stated-wanted.false c.list.ensures c.in_ok-check_nodes.ensures.ok in
-    shown_none c.args.problem.now.network c.in_ok-timing.timing c.args.plan.now c.args.cert.now c.target_of-wanted.result c.in_ok-timing.ensures
+    shown_none c.args.problem.now.network c.timing-timing.result.now c.args.plan.now c.args.cert.now c.target_of-wanted.result c.timing-timing.ensures
     c.target_of-wanted.ensures
     certifies (sym c.verdict_on.ensures ∙ cc is)

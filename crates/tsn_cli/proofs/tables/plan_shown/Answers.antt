@@ -23,6 +23,6 @@ rejects network timing plan fault Shows output (Err refused) same found none sai
 
 pub returns-in-Err : goal.returns-in-Err
 returns-in-Err c =
-    rejects c.args.claim.problem.now.network c.in_ok-timing.timing c.args.claim.plan.now c.in-Err.fault
+    rejects c.args.claim.problem.now.network c.timing.result.now c.args.claim.plan.now c.in-Err.fault
     (λ a. ShowsPlan c.args.table c.args.claim.problem.now c.args.claim.plan.now (shown_output (Ok a))) (λ a. shown_output (Ok a)) c.rejected.result
-    c.in_ok-timing.ensures c.in-Err.ensures.fault c.rejected.ensures.memory c.rejected.ensures.said
+    c.timing.ensures c.in-Err.ensures.fault c.rejected.ensures.memory c.rejected.ensures.said

@@ -12,7 +12,7 @@ returns g c = (
       first_left = c.plan_answer-answer.new.plan;
       second_left = c.plan_answer-answer.new.cert;
       ran = let runs = rw (c.effort_of.ensures, c.requires.wanted) at c.plan_answer-answer.ensures.runs in
-          told_over _ _ _ _ c.plan_answer-answer.result _ _ runs c.tell_answer.ensures;
+          told_over _ _ _ _ c.plan_answer-answer.result _ _ runs c.end_search.ensures;
     };
   },
 )

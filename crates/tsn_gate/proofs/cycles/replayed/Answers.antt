@@ -21,7 +21,7 @@ starts_by-requires c =
     let judged = subst (λ n. MatchOption c.first_fault.result (NamesLinks n c.args.lists.now background × KeepsLimits n c.args.lists.now c.args.cycles background) (HasReplayFault n c.args.lists.now c.args.cycles background)) c.deref.ensures c.first_fault.ensures in
     let right = no_fault c.args.problem.now.network c.args.lists.now c.args.cycles background c.first_fault.result c.in_default.not-Some judged in
     let setting = setting_right (record { network = c.args.problem.now.network; offsets = c.args.valid.now; gates = c.args.lists.now; cycles = c.args.cycles; background = background; keeps = c.args.keeps }) formed c.requires.valid c.requires.few right.0 right.1 in
-    let network = sym c.in_ok-timing.ensures in
+    let network = sym c.timing-timing.ensures in
     let offsets = sym c.offsets-offsets.ensures in
     let gates = c.args.lists.now in
     subst IsSetting (λ i. record { network = network i; offsets = offsets i; gates = gates; cycles = c.args.cycles; background = background; keeps = c.args.keeps }) setting
@@ -34,11 +34,11 @@ rows_of-requires-clause-once c passage s t one other =
 pub rows_of-requires-clause-passages : goal.rows_of-requires-clause-passages
 rows_of-requires-clause-passages c =
     let are = c.in_ok-starts.ensures in
-    subst (All (λ (begun : ScheduledStart). IsPassage c.in_ok-timing.timing c.args.cycles begun.passage)) (sym are.records.scheduled) are.run.passages
+    subst (All (λ (begun : ScheduledStart). IsPassage c.timing-timing.result.now c.args.cycles begun.passage)) (sym are.records.scheduled) are.run.passages
 
 pub returns-clause-replayed : goal.returns-clause-replayed
 returns-clause-replayed c =
-    let network = c.in_ok-timing.ensures in
+    let network = c.timing-timing.ensures in
     let offsets = c.offsets-offsets.ensures in
     let gates = c.args.lists.now in
     let background = background_of c.args.background.now in
@@ -46,7 +46,7 @@ returns-clause-replayed c =
     (λ i. record { network = network i; offsets = offsets i; gates = gates; cycles = c.args.cycles; background = background; keeps = c.args.keeps })
     c.in_ok-starts.ensures in
     let table = c.in_ok-rows.rows.items in
-    let timed = subst (λ n. AreRows n c.offsets-offsets.result.now c.args.cycles c.in_ok-starts.starts table) c.in_ok-timing.ensures c.in_ok-rows.ensures in
+    let timed = subst (λ n. AreRows n c.offsets-offsets.result.now c.args.cycles c.in_ok-starts.starts table) c.timing-timing.ensures c.in_ok-rows.ensures in
     let rows = subst (λ os. AreRows c.args.problem.now.network os c.args.cycles c.in_ok-starts.starts table) c.offsets-offsets.ensures timed in
     let trace : c.new-2.result ≡ record { run = c.in_ok-starts.starts; rows = c.in_ok-rows.rows.items } = c.new-2.ensures ∙ ap (λ table. record { run = c.in_ok-starts.starts; rows = table }) c.new.ensures in
     subst (IsReplayed c.args.keeps c.args.problem.now.network c.args.valid.now c.args.lists.now c.args.cycles background) (sym trace)
@@ -54,9 +54,9 @@ returns-clause-replayed c =
 
 pub returns-clause-named : goal.returns-clause-named
 returns-clause-named c =
-    let names : stream_count c.in_ok-timing.timing ≡ length c.args.problem.now.stream_names = ap stream_count c.in_ok-timing.ensures ∙ (sym c.streams-names.ensures.count ∙ c.streams-names.ensures.named) in
+    let names : stream_count c.timing-timing.result.now ≡ length c.args.problem.now.stream_names = ap stream_count c.timing-timing.ensures ∙ (sym c.streams-names.ensures.count ∙ c.streams-names.ensures.named) in
     subst (λ rows. All (λ (row : Row). row.stream < length c.args.problem.now.stream_names) rows) (sym (ap (λ (t : Traced). t.rows) c.new-2.ensures ∙ c.new.ensures))
-    (rows_named c.in_ok-timing.timing _ c.args.cycles _ c.in_ok-rows.rows.items (length c.args.problem.now.stream_names) names c.in_ok-rows.ensures)
+    (rows_named c.timing-timing.result.now _ c.args.cycles _ c.in_ok-rows.rows.items (length c.args.problem.now.stream_names) names c.in_ok-rows.ensures)
 
 pub returns-clause-on_time : goal.returns-clause-on_time
 returns-clause-on_time c kept count run is = starts_on_time c.args.problem.now.network (subst IsWellFormed c.deref-2.ensures c.cycle-limits.ensures.well_formed) c.args.valid.now c.requires.valid c.args.lists.now kept count run is

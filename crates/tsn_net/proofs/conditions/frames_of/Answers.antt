@@ -1,4 +1,4 @@
-use Rattle.std.proofs.Common.{◌*◌, sym, ◌∙◌, arith}
+use Rattle.std.proofs.Common.{sym, ◌∙◌}
 use Rattle.toml.specs.View.{view}
 use Rattle.tsn_net.proofs.Frames.{few_of}
 use Rattle.tsn_net.proofs.conditions.frames_of.Goals as goal

@@ -1,4 +1,4 @@
-use Rattle.std.proofs.Common.{ℕ, Bool, true, false, not, List, map, Some, None, ap, sym, ◌∙◌, rules, tests}
+use Rattle.std.proofs.Common.{ℕ, Bool, not, List, map, ap, ◌∙◌, rules, tests}
 use Rattle.std.specs.Prelude.{is_some}
 use Rattle.std.proofs.lemmas.Iterator.{YieldsList-from_slice}
 use Rattle.std.proofs.lemmas.Iterator.Search.{find_from_yields_List}

@@ -1,6 +1,5 @@
-use Rattle.std.proofs.Common.{sym, subst, ◌∙◌, ap, ap₂, length, map}
+use Rattle.std.proofs.Common.{sym, subst, ◌∙◌, ap, ap₂, length}
 use Rattle.std.proofs.lemmas.List.{length-map}
-use Rattle.toml.specs.View.{view}
 use Rattle.tsn_net.specs.DocumentView.{document_view}
 use Rattle.tsn_model.specs.Network.{stream_count}
 use Rattle.tsn_model.specs.Held.{AreInLimits, held}

@@ -7,10 +7,10 @@ use Rattle.tsn_walk.proofs.search.dive.Goals.{else-loop-test, then-loop-test+in_
 pub returns : goal.returns
 returns g c = record {
   further = elim c.loop-test.branch [
-    | else-loop-test w ↦ subst (IsFurther c.args.book.now) (sym w.book-is) c.loop.invariant.further
+    | else-loop-test w ↦ subst (IsFurther c.args.course.now.teller c.args.book.now) (sym w.book-is) c.loop.invariant.further
     | then-loop-test+in_ok-settle_batch+then-not-branch w ↦
-        subst (IsFurther c.args.book.now) (sym w.book-is) (goes_on _ _ _ c.loop.invariant.further w.settle_batch.ensures.further)
+        subst (IsFurther c.args.course.now.teller c.args.book.now) (sym w.book-is) (goes_on _ _ _ _ c.loop.invariant.further w.settle_batch.ensures.further)
     | then-loop-test+in_ok-settle_batch+else-not-branch+then-path-depth w ↦
-        subst (IsFurther c.args.book.now) (sym w.book-is) (goes_on _ _ _ c.loop.invariant.further w.settle_batch.ensures.further)
+        subst (IsFurther c.args.course.now.teller c.args.book.now) (sym w.book-is) (goes_on _ _ _ _ c.loop.invariant.further w.settle_batch.ensures.further)
   ];
 }

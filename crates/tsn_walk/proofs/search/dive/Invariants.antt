@@ -4,6 +4,6 @@ use Rattle.tsn_walk.proofs.search.dive.Given as goal
 
 abbrev pub invariant-loop : goal.invariant-loop
 invariant-loop g l = record {
-  further : IsFurther l.fn.book l.book;
+  further : IsFurther l.course.teller l.fn.book l.book;
   below : IsBelow l.course.setting.now.tables.timing.now l.course.setting.now.tables.conflicts.now.triples l.below;
 }

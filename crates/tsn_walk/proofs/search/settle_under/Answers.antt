@@ -7,8 +7,8 @@ use Rattle.tsn_walk.proofs.search.settle_under.Goals.{else-loop-test, then-loop-
 pub returns : goal.returns
 returns g c = record {
   further = elim c.loop-test.branch [
-    | else-loop-test w ↦ subst (IsFurther c.args.book.now) (sym w.book-is) c.loop.invariant.further
+    | else-loop-test w ↦ subst (IsFurther c.args.course.now.teller c.args.book.now) (sym w.book-is) c.loop.invariant.further
     | then-loop-test+in_ok-settle_batch+then-not-branch w ↦
-        subst (IsFurther c.args.book.now) (sym w.book-is) (goes_on _ _ _ c.loop.invariant.further w.settle_batch.ensures.further)
+        subst (IsFurther c.args.course.now.teller c.args.book.now) (sym w.book-is) (goes_on _ _ _ _ c.loop.invariant.further w.settle_batch.ensures.further)
   ];
 }

@@ -43,12 +43,12 @@ pub returns-in_ok-settle-clause-told : goal.returns-in_ok-settle-clause-told
 returns-in_ok-settle-clause-told g c =
     let shown = shown_by_of c.args.self.now.view c.show.new.view _ _ (step_of c.args.step.now) (Ok tt) c.as_slice.ensures.value c.in_ok-show.ensures.shows in
     taken_told c.args.self.now c.show.new.view _ (step_of c.args.step.now)
-    (g.L.Listener.heard c.args.listener.now) (g.L.Listener.heard c.show.new.listener) (g.L.Listener.heard c.end.new.self)
+    (g.L.Observer.heard c.args.observer.now) (g.L.Observer.heard c.show.new.observer) (g.L.Observer.heard c.end.new.self)
     (ap clauses_of c.as_slice.ensures.value) shown.1 c.in_ok-show.ensures.told c.end.ensures
 
 pub returns-else-list-le1-clause-told : goal.returns-else-list-le1-clause-told
 returns-else-list-le1-clause-told g c =
     let shown = shown_by_of c.args.self.now.view c.show.new.view _ _ (step_of c.args.step.now) (Ok tt) c.as_slice.ensures.value c.in_ok-show.ensures.shows in
     taken_told c.args.self.now c.show.new.view _ (step_of c.args.step.now)
-    (g.L.Listener.heard c.args.listener.now) (g.L.Listener.heard c.show.new.listener) (g.L.Listener.heard c.end.new.self)
+    (g.L.Observer.heard c.args.observer.now) (g.L.Observer.heard c.show.new.observer) (g.L.Observer.heard c.end.new.self)
     (ap clauses_of c.as_slice.ensures.value) shown.1 c.in_ok-show.ensures.told c.end.ensures

@@ -1,6 +1,5 @@
 use Rattle.std.proofs.Common.{Some, option_map, ap, sym, ◌∙◌}
 use Rattle.tsn_net.specs.declared.fault.Code.TheVariants.{NotToml}
-use Rattle.tsn_net.specs.declared.fault.NetFault.{NetFault}
 use Rattle.tsn_net.specs.DocumentView.{document_view}
 use Rattle.tsn_net.specs.Conditions.{conditions}
 use Rattle.tsn_net.proofs.PlaceLemmas.{least_fault-drop}

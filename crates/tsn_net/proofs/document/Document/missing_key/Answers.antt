@@ -1,4 +1,4 @@
-use Rattle.std.proofs.Common.{◌≡◌, true, Some, None, option_map, refl, ap, sym, ◌∙◌, rules, tests}
+use Rattle.std.proofs.Common.{◌≡◌, true, Some, None, option_map, refl, sym, ◌∙◌, rules, tests}
 use Rattle.tsn_net.specs.Schema.{is_table}
 use Rattle.tsn_net.specs.Document.{table_at, value_at}
 use Rattle.tsn_net.specs.DocumentView.{document_view}

@@ -1,10 +1,10 @@
-use Rattle.std.proofs.Common.{◌≡◌, List, true, map, not, Some, refl, ap, sym, ◌∙◌, subst}
+use Rattle.std.proofs.Common.{◌≡◌, true, not, Some, refl, ap, sym, ◌∙◌, subst}
 use Rattle.std.specs.List.{find, list_all}
 use Rattle.tsn_net.specs.declared.fault.Place.{Place}
 use Rattle.tsn_net.specs.Document.{value_at}
 use Rattle.tsn_net.specs.DocumentView.{document_view, texts_view}
 use Rattle.tsn_net.specs.Conditions.{holds, unknown_name, has_name, route_of}
-use Rattle.tsn_net.specs.Matter.{IsNoNode}
+use Rattle.tsn_net.specs.Matter.{nodes_named}
 use Rattle.tsn_net.proofs.document.Document.unknown_name.Goals as goal
 
 pub returns-in-Some : goal.returns-in-Some
@@ -18,5 +18,5 @@ returns-in-Some c =
     let found : Found c.args.place = ap (find (λ n. not (has_name d.nodes n))) (sym route) ∙ sym c.in-Some.ensures.first in
     let lacks : Lacks c.args.place = c.in-Some.ensures.found ∙ ap (λ r. not (list_all (has_name d.nodes) r)) route in (
       subst (λ p. true ≡ unknown_name d p) (sym c.in-Stream.is) (subst Lacks c.in-Stream.is lacks),
-      (refl, subst (λ p. IsNoNode d p name) (sym c.in-Stream.is) (subst Found c.in-Stream.is found)),
+      (refl, subst (λ p. find (λ n. not (has_name d.nodes n)) (nodes_named d p) ≡ Some name) (sym c.in-Stream.is) (subst Found c.in-Stream.is found)),
     )

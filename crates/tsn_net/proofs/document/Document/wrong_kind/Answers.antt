@@ -1,5 +1,4 @@
-use Rattle.std.proofs.Common.{◌≡◌, true, Some, None, refl, ap, sym, ◌∙◌, rules, tests}
-use Rattle.tsn_net.specs.declared.fault.Code.TheVariants.{WrongKind}
+use Rattle.std.proofs.Common.{◌≡◌, true, Some, None, refl, sym, ◌∙◌, rules, tests}
 use Rattle.tsn_net.specs.Schema.{is_table}
 use Rattle.tsn_net.specs.Document.{table_at, value_at}
 use Rattle.tsn_net.specs.DocumentView.{document_view}
@@ -15,7 +14,7 @@ returns-in-Some c =
     let is : is_table d ≡ true = search (rules, tests) in
     let found : amiss_key (table_at c.args.place) d ≡ Some c.in-Some.key =
     rw (← c.value_at-value.ensures, ← c.table_at.ensures) (sym c.amiss_key.ensures ∙ c.in-Some.is) in
-    (amiss-found (table_at c.args.place) d (Some c.in-Some.key) is found, (refl, found))
+    (amiss-found (table_at c.args.place) d (Some c.in-Some.key) is found, (refl, (is, found)))
 
 pub returns-in-None : goal.returns-in-None
 unfolding holds wrong_kind

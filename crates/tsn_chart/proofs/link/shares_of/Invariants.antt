@@ -1,6 +1,0 @@
-use Rattle.std.proofs.Common.{take}
-use Rattle.tsn_chart.specs.Shares.{AreLinkShares}
-use Rattle.tsn_chart.proofs.link.shares_of.Given as goal
-
-abbrev pub invariant-loop-list : goal.invariant-loop-list
-invariant-loop-list l = AreLinkShares l.timing (take l.list-index l.lists) l.shares.items

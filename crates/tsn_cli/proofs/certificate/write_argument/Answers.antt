@@ -1,6 +1,0 @@
-use Rattle.std.proofs.Common.{rules}
-use Rattle.tsn_cli.proofs.PieceLemmas.{none_put}
-use Rattle.tsn_cli.proofs.certificate.write_argument.Goals as goal
-
-pub returns-in_err-text-clause-put : goal.returns-in_err-text-clause-put
-returns-in_err-text-clause-put g c = (search rules, none_put _ _ _)
