@@ -1,8 +1,9 @@
 #!/usr/bin/env python3
-"""Checks README.md, docs/proved.md and docs/crates.md against the sources: that what they quote stands where their links lead; that each
-crate has its row in the map, the definitions and files that rows name are there, and its picture shows what crates.txt says. And that
-they tell right within a twentieth how many functions have a contract: those of the program and of the crates below it that have an
-`ensures` at their head.
+"""Checks README.md, docs/proved.md, docs/architecture.md and docs/crates.md against the sources: that what they quote stands where their
+links lead, and that each function among it is reached from the program's `main` (tools/reached.py), is a law, or is said to be for users
+of the crates; that each crate has its row in the map, the definitions and files that rows name are there, and its picture shows what
+crates.txt says. And that they tell right within a twentieth how many functions have a contract: those of the program and of the crates
+below it that have an `ensures` at their head.
 
 Usage: bench/claims.py [--list [CRATE..] | --mend]. With --list it prints what is promised: each public function that has a contract, by
 crate, with its line, its comment and the clauses of its `ensures`. With --mend it writes the lines of links anew where their words have
@@ -19,10 +20,13 @@ ROOT = os.path.dirname(os.path.dirname(os.path.abspath(__file__)))
 sys.path.insert(0, os.path.join(ROOT, "tools"))
 
 from lanes import below, minutes, uses
+from reached import Reached
 
 PAGE = os.path.join(ROOT, "docs", "proved.md")
 MAP = os.path.join(ROOT, "docs", "crates.md")
-PAGES = [PAGE, os.path.join(ROOT, "README.md"), MAP]
+PAGES = [PAGE, os.path.join(ROOT, "README.md"), MAP, os.path.join(ROOT, "docs", "architecture.md")]
+# What a line says of calls that no command makes.
+FOR_USERS = "for users of the crates"
 LEARNS = ("tsn_bounds", "tsn_solver", "tsn_translate", "tsn_learn")
 
 # What stands around the counts of functions in each page, and which counts these are.
@@ -201,6 +205,19 @@ def wrong_links(path, mend):
     return wrong
 
 
+def unreached(path, reached):
+    """Functions to which links of a page lead, and to which no way leads from `main`: laws aside, and where the line says for whom they are."""
+    wrong = []
+    for line in read(path).splitlines():
+        for word, target, at in re.findall(r"\[`([\w:]+)`\]\(([^)#]+\.rt)#L(\d+)\)", line):
+            file = os.path.relpath(os.path.normpath(os.path.join(os.path.dirname(path), target)), os.path.join(ROOT, "crates"))
+            crate, _, inside = file.partition(os.sep)
+            is_law = os.path.basename(inside) == "laws.rt"
+            if not is_law and FOR_USERS not in line and not reached.is_reached(crate, inside, int(at)):
+                wrong.append(f"{os.path.relpath(path, ROOT)}: nothing reaches `{word}` from main, and the line doesn't say that it is {FOR_USERS}")
+    return wrong
+
+
 def code_lines(path):
     """The lines of a file without their indentation, but for empty ones and comments."""
     return [line.strip() for line in read(path).splitlines() if line.strip() and not line.strip().startswith(("//", "--"))]
@@ -241,6 +258,8 @@ def main():
         return 0
     mend = sys.argv[1:] == ["--mend"]
     wrong = [it for page in PAGES for it in [*wrong_links(page, mend), *wrong_quotes(page)]]
+    reached = Reached(ROOT, [*(it for it in crates if it != "tsn_core"), "tsn"])
+    wrong += [it for page in PAGES for it in unreached(page, reached)]
     counted = counts([*crates, "tsn"])
     wrong += [it for page in COUNTS for it in wrong_counts(page, counted, mend)]
     words = set().union(*(definitions(it) for it in used))

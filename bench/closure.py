@@ -17,12 +17,16 @@ CRATES = os.path.join(ROOT, "crates")
 STATEMENTS = [
     ("the first optimal schedule, and that there is none", "tsn_model", ["IsFirst", "HasNoSchedule"]),
     ("... with what a network is", "tsn_model", ["IsFirst", "HasNoSchedule", "IsWellFormed"]),
-    ("that the planner's answer is the optimum", "tsn_answer", ["FindsOptimum"]),
+    ("that what the search of `plan` finds is the optimum", "tsn_answer", ["FindsOptimum"]),
     ("a certificate shows it", "tsn_argue", ["Certifies"]),
     ("what shows the planner's answer", "tsn_answer", ["IsAnswerShown"]),
     ("what its file says", "tsn_answer", ["IsAnswerReadAgain"]),
+    ("what `plan` has written by its status", "tsn_cli", ["WritesFirst", "WritesNone"]),
+    ("... with the certificate", "tsn_cli", ["WritesAsSaid"]),
+    ("... of any run, with what it read", "tsn_command", ["RanAsSaid"]),
     ("what `plan` prints and writes", "tsn_cli", ["PlanAnswers"]),
     ("frames start on time", "tsn_model", ["FramesStartOnTime"]),
+    ("... that are ready early, too", "tsn_model", ["EarlyFramesStartOnTime"]),
 ]
 NAME = re.compile(r"[^\s(){}\[\],;:.λ∷→×⊎≡≢≤<↔¬∙+*=|&-]+")
 

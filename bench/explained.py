@@ -7,7 +7,7 @@ Of each network of the folders (bench/suite and bench/periods, unless others are
 decided, the certificate that the conflict-driven search finds and the tree that the search in file order finds within --steps nodes
 are explained. What the text has to say, each number, name and step of it, is worked out from the network's file, the plan and the
 certificate alone, by the definitions: of arguments by the views of bench/arguments/check_argument.py, and by which facts each move
-needs; of trees by the weights of their paths. A sentence whose words are as expected, but a number isn't, is told as wrong; any other
+needs; of trees by the weights of their paths, or where they are large by the argument that `prove` finds. A sentence whose words are as expected, but a number isn't, is told as wrong; any other
 that isn't as expected as not understood. The texts and the certificates are kept (--keep). The status is 0 only if all sentences of
 all texts are so.
 """
@@ -32,6 +32,8 @@ from check_argument import Checker, Network, frame_of, opposite, order_of, read 
 
 # How many steps, nodes, links, streams of a link and names of a set are told at most.
 MOST_STEPS, MOST_NODES, MOST_LINKS, MOST_STREAMS, MOST_NAMED = 12, 12, 5, 6, 12
+# How many conflicts may find the argument that is told in place of a large tree.
+MOST_CONFLICTS = 1000
 
 
 # ---- names and words
@@ -612,10 +614,14 @@ class Tree:
             yield f"In the tightest of these ways, on {least[1]}."
 
 
-def tree_lines(words, plan, cert):
-    """What is to be said of a tree."""
+def tree_lines(words, plan, cert, argument, text):
+    """What is to be said of a tree: by an argument, where there is one for it."""
     tree = Tree(words, cert["nodes"])
-    yield from tree.leaves() if len(tree.nodes) <= MOST_NODES else tree.summary()
+    if argument:
+        yield f"The certificate is a tree of {grouped(len(tree.nodes))} nodes. An argument as prove finds it shows the same."
+        yield from argument_lines(words, plan, argument, text)
+    else:
+        yield from tree.leaves() if len(tree.nodes) <= MOST_NODES else tree.summary()
     if cert["format"] == 2 and plan is not None:
         yield "Of the schedules of this flowspan the plan is the first in list order."
 
@@ -623,13 +629,14 @@ def tree_lines(words, plan, cert):
 # ---- texts
 
 
-def lines_of(words, plan, cert, text):
-    """What is to be said of a certificate that is accepted."""
+def lines_of(words, plan, cert, argument, text):
+    """What is to be said of a certificate that is accepted, for which an argument may be told."""
     if plan is None:
         yield f"There is no schedule within the cycle of {grouped(words.network.cycle)} ns."
     else:
         yield f"No schedule is done before {grouped(words.network.flowspan(plan[1]))} ns."
-    yield from argument_lines(words, plan, cert, text) if cert["format"] == 3 else tree_lines(words, plan, cert)
+    is_argument = cert["format"] == 3
+    yield from argument_lines(words, plan, cert, text) if is_argument else tree_lines(words, plan, cert, argument, text)
 
 
 def skeleton(sentence):
@@ -672,6 +679,15 @@ def certificates(program, path, steps, room):
             yield how, plan, cert
 
 
+def argument_for(program, path, plan_path, cert_path, cert):
+    """The argument that is told in place of a large tree, if it is found soon."""
+    if cert["format"] == 3 or len(cert["nodes"]) <= MOST_NODES:
+        return None
+    found = cert_path + ".argument"
+    ended = run([program, "prove", path, plan_path, "--cert", found, "--steps", str(MOST_CONFLICTS)])
+    return None if ended.returncode or not ended.stdout.startswith("proved") else json.loads(read(found))
+
+
 def explained(program, path, plan_path, cert_path):
     """The text of a certificate, and what isn't as expected of it."""
     ended = run([program, "explain", path, plan_path, cert_path])
@@ -682,7 +698,8 @@ def explained(program, path, plan_path, cert_path):
     with open(cert_path, encoding="utf-8") as file:
         cert = json.load(file)
     plan = None if plan["flowspan"] is None else (plan["flowspan"], plan["offsets"])
-    return ended.stdout, list(faults(ended.stdout, list(lines_of(Words(path), plan, cert, ended.stdout))))
+    argument = argument_for(program, path, plan_path, cert_path, cert)
+    return ended.stdout, list(faults(ended.stdout, list(lines_of(Words(path), plan, cert, argument, ended.stdout))))
 
 
 def drawn(count, seed, room):

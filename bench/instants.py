@@ -8,7 +8,7 @@ Of each network of the folders (else bench/periods) that has a plan in its first
 (bench/plainly.py), at each instant where either may change and beside it, so at all of the cycle. The three formats have to say the
 same. Merged lists (--merge) have to last as long as they are asked to, open class 7 wherever the others do, and the other classes
 nowhere else. `replay` with greedy background has to tell each start as it is planned, by merged lists too, and `streams` what a
-count of the lists gives. The status is 1 where something differs.
+count of the lists and of the starts gives. The status is 1 where something differs.
 """
 
 import argparse
@@ -132,14 +132,15 @@ class Look:
         several = any(len(it.shifts) > 1 for it in network.streams)
         wanted = []
         for it, offset in zip(network.streams, offsets):
-            line = {"stream": it.name, "offset": offset, "latency": it.span, "arrival": offset + it.arrival}
-            line |= {"to_latest": it.latest - offset - it.arrival, "to_cycle": it.period - offset - it.span}
+            line = {"stream": it.name, "offset": offset, "latency": it.latency, "arrival": offset + it.arrival}
+            line |= {"to_latest": it.latest - offset - it.arrival, "span": it.span, "to_period_end": it.period - offset - it.span}
             wanted.append(line | ({"period": it.period, "frames": len(it.shifts) * it.period // network.cycle} if several else {}))
         for link, it in lists.items():
             lasts = {octet: sum(interval for other, interval in it["entries"] if other == octet) for octet in (0x80, 0x00, 0x7F)}
             line = {"link": link, "from": it["from"], "to": it["to"], "scheduled": lasts[0x80], "guard": lasts[0x00], "open": lasts[0x7F]}
-            line["longest_open"] = longest_open(it["entries"])
+            line |= {"longest_open": longest_open(it["entries"]), "slack": slack(network, offsets, link)}
             wanted.append(line | ({"windows": len(Gates(network, offsets, link).windows)} if several else {}))
+        wanted.append({"slack": min(line["slack"] for line in wanted if "slack" in line)})
         same([json.loads(line) for line in self.said("streams", net, plan, "--format", "json").splitlines()], wanted)
 
     def plan(self, net, plan):
@@ -163,6 +164,14 @@ def longest_open(entries):
     if entries[0][0] == entries[-1][0] == 0x7F:
         rests.append(entries[0][1] + entries[-1][1])
     return max(rests, default=0)
+
+
+def slack(network, offsets, link):
+    """How much sooner than planned frames may be ready for a link: less than each is planned after another, and than each took to get there."""
+    begins = Gates(network, offsets, link).begins
+    spaces = [after - begin for begin, after in zip(begins, begins[1:] + [begins[0] + network.cycle])]
+    delays = [hop.start - before.start for it in network.streams for before, hop in zip(it.hops, it.hops[1:]) if hop.link == link]
+    return min(spaces + delays) - 1
 
 
 def planned(folders, only, room):

@@ -34,6 +34,7 @@ class Stream:
     period: int
     hops: list
     shifts: list
+    latency: int
     arrival: int
     span: int
 
@@ -86,6 +87,7 @@ def stream_of(said, cycle, route, links, delay, proc):
         period=period,
         hops=hops,
         shifts=[turn * period + place * pace for turn in range(cycle // period) for place in range(burst)],
+        latency=arrival,
         arrival=arrival + spread,
         span=max([arrival + spread] + [it.start + spread + it.occupancy for it in hops]),
     )

@@ -3,8 +3,9 @@
 
 real_files.py [PROGRAM..]   the program as each of the two compilers builds it, unless programs are given
 
-Each program runs in a folder of its own: a copy of bench/real-files, with an empty folder `made`, copies of `examples` and of
-bench/suite (as `suite`), and `long.toml`, a network that takes long. Standard input is the two streams' network.
+Each program runs in a folder of its own: a copy of bench/real-files, with an empty folder `made`, copies of `examples`, of
+bench/suite (as `suite`) and of bench/periods (as `periods`), and `long.toml`, a network that takes long. Standard input is the two
+streams' network.
 docs/rows.md says how a table is written.
 """
 
@@ -25,7 +26,7 @@ DATA = os.path.join(ROOT, "bench", "real-files")
 TABLE = "real-files.rows"
 INPUT = "two-streams.toml"
 LONG = os.path.join(ROOT, "bench", "networks", "random-40.toml")
-COPIED = {"examples": os.path.join(ROOT, "examples"), "suite": os.path.join(ROOT, "bench", "suite")}
+COPIED = {"examples": os.path.join(ROOT, "examples"), **{it: os.path.join(ROOT, "bench", it) for it in ("suite", "periods")}}
 NOBODY = 65534
 # (seconds that a command may take: the longest needs eight of a processor)
 PATIENCE = 600
@@ -92,7 +93,7 @@ class Session:
             return False
         makes = {
             "put": self.put, "size": self.size, "link": self.link, "twin": self.twin, "mode": self.mode, "own": self.own,
-            "folder": self.folder, "$": self.run,
+            "folder": self.folder, "chain": self.chain, "$": self.run,
         }
         compares = {
             "=": self.compare_end, "!": self.compare_told, "?": self.compare_part, ">": self.compare_file, "absent": self.compare_absent,
@@ -126,6 +127,14 @@ class Session:
     def link(self, rest):
         name, target = rest.split(" = ", 1)
         os.symlink(target, name)
+
+    def chain(self, rest):
+        """So many symbolic links, each to the next: the first has the name, and the last leads to the target."""
+        words, target = rest.split(" = ", 1)
+        count, name = words.split(" ", 1)
+        names = [name, *(f"{name}-{k}" for k in range(1, int(count)))]
+        for link, to in zip(names, [*map(os.path.basename, names[1:]), target]):
+            os.symlink(to, link)
 
     def mode(self, rest):
         name, mode = rest.split(" = ", 1)
