@@ -5,7 +5,7 @@ use Rattle.std.proofs.lemmas.Int.{ints, fold-int_max_bounds}
 use Rattle.std.proofs.lemmas.List.Elements.{All-nil, All-cons, All-head, All-tail, All-contains}
 use Rattle.tsn_model.specs.declared.Frame.{Frame}
 use Rattle.tsn_model.specs.Network.{Network, IsWellFormed}
-use Rattle.tsn_model.specs.Timing.{occupancy}
+use Rattle.tsn_model.specs.Timing.{separation}
 use Rattle.tsn_model.specs.Schedule.{IsValid, offset_of}
 use Rattle.tsn_model.specs.Certificate.{least, IsFrameOn, begin_on, end_on}
 use Rattle.tsn_model.specs.Argument.{View, Fits, head_at, end_at, most, first_head, last_end, work_on, AreOn, AreSome}
@@ -28,7 +28,7 @@ module _ (network : Network) (formed : IsWellFormed network) (offsets : List ℕ
   begin_of frame = begins network offsets link frame
 
   abbrev work : Frame → ℕ
-  work frame = occupancy network frame.stream link
+  work frame = separation network frame.stream link
 
   no_frame : Frame
   no_frame = record { stream = 0; shift = 0 }

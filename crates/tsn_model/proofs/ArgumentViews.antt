@@ -16,7 +16,7 @@ use Rattle.std.proofs.lemmas.List.Folds.{Any-from_list_any}
 use Rattle.tsn_model.proofs.Numbers.{each-set}
 use Rattle.tsn_model.proofs.Paths.{decision_eq-true}
 use Rattle.tsn_model.proofs.Orders.{conflict_decided}
-use Rattle.tsn_model.proofs.Routes.{occupancy-pos}
+use Rattle.tsn_model.proofs.Routes.{separation-pos}
 
 pub int_lt-true : (a b : ℤ) → int_lt a b ≡ true → a <ℤ b
 int_lt-true a b less = grind (arith, ints)
@@ -77,12 +77,12 @@ module _ (network : Network) (formed : IsWellFormed network) (offsets : List ℕ
       → Holds offsets (arc_on network triple (other_side side)) → ⊥
   unfolding other_side arc_on arc_between
   not_both triple Left conflict met other =
-      let left = occupancy-pos network triple.left triple.link formed conflict.left_uses in
-      let right = occupancy-pos network triple.right triple.link formed conflict.right_uses in
+      let left = separation-pos network triple.left triple.link in
+      let right = separation-pos network triple.right triple.link in
       omega (arith, ints, met, other, left, right)
   not_both triple Right conflict met other =
-      let left = occupancy-pos network triple.left triple.link formed conflict.left_uses in
-      let right = occupancy-pos network triple.right triple.link formed conflict.right_uses in
+      let left = separation-pos network triple.left triple.link in
+      let right = separation-pos network triple.right triple.link in
       omega (arith, ints, met, other, left, right)
 
   -- of a valid schedule each fact holds, or its opposite

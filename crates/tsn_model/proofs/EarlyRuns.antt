@@ -5,14 +5,14 @@ use Rattle.std.proofs.Math.Nat.{mod-add-div'}
 use Rattle.std.proofs.lemmas.Bool.{cases_lt, cases_eq, cond-true, cond-false}
 use Rattle.std.proofs.lemmas.List.Elements.{All-contains, Contains-append_left, Contains-append_cases}
 use Rattle.tsn_model.specs.Network.{Network, IsWellFormed, hop_count, route_link, link_at}
-use Rattle.tsn_model.specs.Timing.{occupancy, hop_delay, Sends, start, UsesLink}
-use Rattle.tsn_model.specs.Schedule.{IsValid, offset_of, FrameOccupies, Occupies}
+use Rattle.tsn_model.specs.Timing.{occupancy, separation, hop_delay, Sends, start, UsesLink}
+use Rattle.tsn_model.specs.Schedule.{IsValid, offset_of, FrameOccupies, FrameKeeps, Occupies, Keeps}
 use Rattle.tsn_model.specs.Gates.{IsOctetAt, InWindow, InGuard, IsWanted, guard_of}
 use Rattle.tsn_model.specs.Bridge.{LinkGates, BackgroundOpen, Passage, ScheduledStart, BackgroundStart, BridgeRun, WireUse, AreDisjoint, link_of, length_of, scheduled_use, background_use, wire_uses, IsPassage, StartedAt, NotStartedBefore, IsReady, FitsAt, HasWantedGates, planned}
 use Rattle.tsn_model.specs.Kept.{IsKept, KeepsWantedGates}
 use Rattle.tsn_model.specs.Early.{IsDelayed, IsEarlyRun, Tolerates, readiness, HoldsTo, ToleratesLead, StartsInTime}
 use Rattle.tsn_model.proofs.Lists.{Contains-map, from_map, pair_of}
-use Rattle.tsn_model.proofs.Routes.{use_of, UsesLink-counted, occupancy-pos, start-more, start-zero, window-le-cycle, frames_apart}
+use Rattle.tsn_model.proofs.Routes.{use_of, UsesLink-counted, occupancy-pos, occupancy-le-separation, slack-lt-separation, separation-pos, start-more, start-zero, keeping-le-cycle, frames_apart}
 use Rattle.tsn_model.proofs.Hops.{passage_cases, started_cases, cycle_below, same_cycle, hop_uses, hop_start, hop_once, hop_delay-pos}
 
 -- ---- how early passages may be ready
@@ -47,14 +47,28 @@ module _ (network : Network) (formed : IsWellFormed network) (offsets : List ℕ
   unfolding planned
   planned_is p = omega arith
 
-  -- its window ends within the cycle, and isn't empty
-  window_ends : (p : Passage) → IsPassage network cycles p → phase_of p + length_of network p ≤ network.cycle
-  unfolding length_of link_of
-  window_ends p passage =
+  -- how long it keeps its link: as long as its window at least, and within the cycle
+  abbrev kept_for : Passage → ℕ
+  kept_for p = separation network p.stream (link_of network p)
+
+  length-le-kept : (p : Passage) → length_of network p ≤ kept_for p
+  unfolding length_of
+  length-le-kept p = occupancy-le-separation network p.stream (link_of network p)
+
+  keeping_ends : (p : Passage) → IsPassage network cycles p → phase_of p + kept_for p ≤ network.cycle
+  unfolding link_of
+  keeping_ends p passage =
       let at = hop_start network formed p.stream passage.stream p.hop passage.hop in
-      let ends = window-le-cycle network offsets p.stream p.shift (route_link network p.stream p.hop) valid passage.sent
+      let ends = keeping-le-cycle network offsets p.stream p.shift (route_link network p.stream p.hop) valid passage.sent
       (hop_uses network formed p.stream passage.stream p.hop passage.hop) in
       omega (arith, at, ends)
+
+  -- its window ends within the cycle, and isn't empty
+  window_ends : (p : Passage) → IsPassage network cycles p → phase_of p + length_of network p ≤ network.cycle
+  window_ends p passage =
+      let ends = keeping_ends p passage in
+      let within = length-le-kept p in
+      omega arith
 
   window_some : (p : Passage) → IsPassage network cycles p → 0 < length_of network p
   unfolding length_of link_of
@@ -76,6 +90,18 @@ module _ (network : Network) (formed : IsWellFormed network) (offsets : List ℕ
   occupies : (p : Passage) → IsPassage network cycles p → (w : ℕ) → phase_of p ≤ w → w < phase_of p + length_of network p
       → Occupies network offsets p.stream (link_of network p) w
   occupies p passage w begun ends = record { shift = p.shift; sent = passage.sent; frame = frame_occupies p passage w begun ends }
+
+  -- and one at which it keeps its link
+  frame_keeps : (p : Passage) → IsPassage network cycles p → (w : ℕ) → phase_of p ≤ w → w < phase_of p + kept_for p
+      → FrameKeeps network offsets p.stream p.shift (link_of network p) w
+  unfolding link_of
+  frame_keeps p passage w begun ends =
+      let at = hop_start network formed p.stream passage.stream p.hop passage.hop in
+      record { begun = omega arith; not_ended = omega arith }
+
+  keeps : (p : Passage) → IsPassage network cycles p → (w : ℕ) → phase_of p ≤ w → w < phase_of p + kept_for p
+      → Keeps network offsets p.stream (link_of network p) w
+  keeps p passage w begun ends = record { shift = p.shift; sent = passage.sent; frame = frame_keeps p passage w begun ends }
 
   -- what is planned for a hop is what is planned for the hop before it, and its delay
   planned_next : (p : Passage) (before : ℕ) → IsPassage network cycles p → p.hop ≡ before + 1
@@ -124,16 +150,16 @@ module _ (network : Network) (formed : IsWellFormed network) (offsets : List ℕ
             (occupies p passage (u - p.cycle * network.cycle) (omega arith) (omega arith)),
       )
 
-  -- an instant of two planned windows of one link is in one cycle, and the two are of one stream
+  -- an instant at which two passages keep one link is in one cycle
   one_cycle : (p q : Passage) → IsPassage network cycles p → IsPassage network cycles q → (u : ℕ)
-      → planned network offsets p ≤ u → u < planned network offsets p + length_of network p → planned network offsets q ≤ u
-      → u < planned network offsets q + length_of network q
+      → planned network offsets p ≤ u → u < planned network offsets p + kept_for p → planned network offsets q ≤ u
+      → u < planned network offsets q + kept_for q
       → p.cycle ≡ q.cycle
   one_cycle p q p_passage q_passage u p_begun p_ends q_begun q_ends =
       let p_plan = planned_is p in
       let q_plan = planned_is q in
-      let p_fits = window_ends p p_passage in
-      let q_fits = window_ends q q_passage in
+      let p_fits = keeping_ends p p_passage in
+      let q_fits = keeping_ends q q_passage in
       same_cycle p.cycle q.cycle network.cycle (u - p.cycle * network.cycle) (u - q.cycle * network.cycle) (omega arith) (omega arith) (omega arith)
 
   hop_link : (p q : Passage) → p.stream ≡ q.stream → link_of network p ≡ link_of network q
@@ -141,17 +167,17 @@ module _ (network : Network) (formed : IsWellFormed network) (offsets : List ℕ
   unfolding link_of
   hop_link p q stream same = ap (λ i. route_link network i p.hop) (sym stream) ∙ same
 
-  -- two passages of one link have no common instant
-  same_window : (p q : Passage) → IsPassage network cycles p → IsPassage network cycles q → link_of network p ≡ link_of network q → (u : ℕ)
-      → planned network offsets p ≤ u → u < planned network offsets p + length_of network p → planned network offsets q ≤ u
-      → u < planned network offsets q + length_of network q
+  -- two passages keep one link at no common instant
+  same_keeping : (p q : Passage) → IsPassage network cycles p → IsPassage network cycles q → link_of network p ≡ link_of network q → (u : ℕ)
+      → planned network offsets p ≤ u → u < planned network offsets p + kept_for p → planned network offsets q ≤ u
+      → u < planned network offsets q + kept_for q
       → p ≡ q
-  same_window p q p_passage q_passage link u p_begun p_ends q_begun q_ends =
+  same_keeping p q p_passage q_passage link u p_begun p_ends q_begun q_ends =
       let cycle = one_cycle p q p_passage q_passage u p_begun p_ends q_begun q_ends in
       let p_plan = planned_is p in
       let q_plan = planned_is q in
-      let p_fits = window_ends p p_passage in
-      let q_fits = window_ends q q_passage in
+      let p_fits = keeping_ends p p_passage in
+      let q_fits = keeping_ends q q_passage in
       let begins : p.cycle * network.cycle ≡ q.cycle * network.cycle = ap (λ c. c * network.cycle) cycle in
       elim (cases_eq p.stream q.stream) [
         | inl stream ↦
@@ -163,28 +189,44 @@ module _ (network : Network) (formed : IsWellFormed network) (offsets : List ℕ
               | inr differ ↦
                   absurd (frames_apart network offsets q.stream p.shift q.shift (link_of network q) valid (uses q q_passage)
                   (subst (λ i. Sends network i p.shift) stream p_passage.sent) q_passage.sent differ (u - p.cycle * network.cycle)
-                  (subst (λ l. FrameOccupies network offsets q.stream p.shift l (u - p.cycle * network.cycle)) link
-                  (subst (λ i. FrameOccupies network offsets i p.shift (link_of network p) (u - p.cycle * network.cycle)) stream
-                  (frame_occupies p p_passage (u - p.cycle * network.cycle) (omega arith) (omega arith))))
-                  (frame_occupies q q_passage (u - p.cycle * network.cycle) (omega arith) (omega arith)))
+                  (subst (λ l. FrameKeeps network offsets q.stream p.shift l (u - p.cycle * network.cycle)) link
+                  (subst (λ i. FrameKeeps network offsets i p.shift (link_of network p) (u - p.cycle * network.cycle)) stream
+                  (frame_keeps p p_passage (u - p.cycle * network.cycle) (omega arith) (omega arith))))
+                  (frame_keeps q q_passage (u - p.cycle * network.cycle) (omega arith) (omega arith)))
             ]
         | inr differ ↦
             absurd (valid.disjoint p.stream q.stream (link_of network p) (u - p.cycle * network.cycle) differ (uses p p_passage)
             (subst (UsesLink network q.stream) (sym link) (uses q q_passage))
-            (occupies p p_passage (u - p.cycle * network.cycle) (omega arith) (omega arith))
-            (subst (λ l. Occupies network offsets q.stream l (u - p.cycle * network.cycle)) (sym link)
-            (occupies q q_passage (u - p.cycle * network.cycle) (omega arith) (omega arith))))
+            (keeps p p_passage (u - p.cycle * network.cycle) (omega arith) (omega arith))
+            (subst (λ l. Keeps network offsets q.stream l (u - p.cycle * network.cycle)) (sym link)
+            (keeps q q_passage (u - p.cycle * network.cycle) (omega arith) (omega arith))))
       ]
 
-  -- of two passages of one link that differ the one that isn't planned sooner is planned after the other's window
+  -- of two passages of one link that differ the one that isn't planned sooner is planned after the other has kept it
+  after_keeping : (p q : Passage) → IsPassage network cycles p → IsPassage network cycles q → link_of network p ≡ link_of network q → (p ≡ q → ⊥)
+      → planned network offsets p ≤ planned network offsets q → planned network offsets p + kept_for p ≤ planned network offsets q
+  after_keeping p q p_passage q_passage link differ order =
+      let some = separation-pos network q.stream (link_of network q) in
+      elim (cases_lt (planned network offsets q) (planned network offsets p + kept_for p)) [
+        | inl within ↦ absurd (differ (same_keeping p q p_passage q_passage link (planned network offsets q) order within (omega arith) (omega arith)))
+        | inr past ↦ past
+      ]
+
+  -- so after its window, and by more than the slack
   pub after_window : (p q : Passage) → IsPassage network cycles p → IsPassage network cycles q → link_of network p ≡ link_of network q → (p ≡ q → ⊥)
       → planned network offsets p ≤ planned network offsets q → planned network offsets p + length_of network p ≤ planned network offsets q
   after_window p q p_passage q_passage link differ order =
-      let some = window_some q q_passage in
-      elim (cases_lt (planned network offsets q) (planned network offsets p + length_of network p)) [
-        | inl within ↦ absurd (differ (same_window p q p_passage q_passage link (planned network offsets q) order within (omega arith) (omega arith)))
-        | inr past ↦ past
-      ]
+      let past = after_keeping p q p_passage q_passage link differ order in
+      let within = length-le-kept p in
+      omega arith
+
+  pub after_slack : (p q : Passage) → IsPassage network cycles p → IsPassage network cycles q → link_of network p ≡ link_of network q
+      → planned network offsets p < planned network offsets q → planned network offsets p + network.slack < planned network offsets q
+  after_slack p q p_passage q_passage link sooner =
+      let past = after_keeping p q p_passage q_passage link
+      (λ same. let one : planned network offsets p ≡ planned network offsets q = ap (planned network offsets) same in omega arith) (omega arith) in
+      let within = slack-lt-separation network p.stream (link_of network p) in
+      omega arith
 
   -- a passage whose window an instant of the run is in
   record Owner (link u : ℕ) : Type 0 where

@@ -1,5 +1,5 @@
 -- Streams that are held to an offset have it, and nothing else of the network changes.
-use Rattle.std.proofs.Common.{◌≡◌, ℕ, ◌+◌, ◌-◌, ◌*◌, ◌/◌, ◌≤◌, ◌<◌, ◌⊎◌, ◌↔◌, inl, inr, List, length, Option, Contains, IsSome, Some, None, refl, sym, ap, ◌∙◌, subst, arith}
+use Rattle.std.proofs.Common.{◌≡◌, ℕ, ◌+◌, ◌-◌, ◌*◌, ◌/◌, ◌≤◌, ◌<◌, ◌⊎◌, ◌↔◌, inl, inr, List, length, Option, Contains, IsSome, Some, None, refl, sym, ap, ◌∙◌, subst, max, arith}
 use Rattle.std.specs.List.{range_with_len}
 use Rattle.std.specs.Option.{option_map_or}
 use Rattle.std.proofs.lemmas.Bool.{cases_lt}
@@ -7,8 +7,8 @@ use Rattle.std.proofs.lemmas.Option.{none-some}
 use Rattle.std.proofs.lemmas.List.{length-map, get_or-map, get_or_past}
 use Rattle.std.proofs.lemmas.List.FromFn.{length-range_with_len, get_or-range_with_len}
 use Rattle.tsn_model.specs.Network.{Network, IsWellFormed, Stream, no_stream, stream_count, stream_at, octets_of, turns_of, period_of, burst_of, route_of, hop_count, release_of, latest_of, link_at, proc_at}
-use Rattle.tsn_model.specs.Timing.{occupancy, transfer, hop_delay, pace, spread, shifts, start, arrival, hop_end, hop_on, start_on, UsesLink}
-use Rattle.tsn_model.specs.Schedule.{offset_of, FrameOccupies, Occupies, IsValid}
+use Rattle.tsn_model.specs.Timing.{occupancy, separation, transfer, hop_delay, pace, spread, shifts, start, arrival, hop_end, hop_on, start_on, UsesLink}
+use Rattle.tsn_model.specs.Schedule.{offset_of, FrameKeeps, Keeps, IsValid}
 use Rattle.tsn_model.specs.Held.{hold, had, held_stream, held, AreFree, HasOffsets}
 use Rattle.tsn_model.proofs.Limits.{period-le}
 
@@ -75,13 +75,17 @@ module _ (network : Network) (offsets : List (Option ℕ)) where
   unfolding occupancy link_at held
   same_occupancy i = ap (λ octets link. (octets + 20) * (link_at network link).octet_time) (same_octets i)
 
+  same_separation : (i : ℕ) → separation (held network offsets) i ≡ separation network i
+  unfolding separation held
+  same_separation i = ap (λ occupied link. max (occupied link) (network.slack + 1)) (same_occupancy i)
+
   same_spread : (i : ℕ) → spread (held network offsets) i ≡ spread network i
   unfolding spread pace
-  same_spread i = rw (same_burst i, same_occupancy i, same_route i) refl
+  same_spread i = rw (same_burst i, same_separation i, same_route i) refl
 
   same_shifts : (i : ℕ) → shifts (held network offsets) i ≡ shifts network i
   unfolding shifts pace
-  same_shifts i = rw (same_burst i, same_turns i, same_period i, same_occupancy i, same_route i) refl
+  same_shifts i = rw (same_burst i, same_turns i, same_period i, same_separation i, same_route i) refl
 
   same_transfer : (i : ℕ) → transfer (held network offsets) i ≡ transfer network i
   unfolding transfer link_at held
@@ -103,7 +107,7 @@ module _ (network : Network) (offsets : List (Option ℕ)) where
 
   same_hop_end : (i k : ℕ) → hop_end (held network offsets) i k ≡ hop_end network i k
   unfolding hop_end
-  same_hop_end i k = rw (same_start i k, same_spread i, same_occupancy i, same_route i) refl
+  same_hop_end i k = rw (same_start i k, same_spread i, same_separation i, same_route i) refl
 
   same_hop : (i link : ℕ) → hop_on (held network offsets) i link ≡ hop_on network i link
   unfolding hop_on
@@ -115,36 +119,36 @@ module _ (network : Network) (offsets : List (Option ℕ)) where
 
   -- ---- what is valid
 
-  frame_as : (list : List ℕ) (i shift link t : ℕ) → FrameOccupies (held network offsets) list i shift link t → FrameOccupies network list i shift link t
+  frame_as : (list : List ℕ) (i shift link t : ℕ) → FrameKeeps (held network offsets) list i shift link t → FrameKeeps network list i shift link t
   frame_as list i shift link t frame =
       let start = same_start_on i link in
-      let time = ap (λ f. f link) (same_occupancy i) in
+      let time = ap (λ f. f link) (same_separation i) in
       let begun = frame.begun in
       let not_ended = frame.not_ended in
       record { begun = omega (arith, start, begun); not_ended = omega (arith, start, time, not_ended) }
 
-  frame_of : (list : List ℕ) (i shift link t : ℕ) → FrameOccupies network list i shift link t → FrameOccupies (held network offsets) list i shift link t
+  frame_of : (list : List ℕ) (i shift link t : ℕ) → FrameKeeps network list i shift link t → FrameKeeps (held network offsets) list i shift link t
   frame_of list i shift link t frame =
       let start = same_start_on i link in
-      let time = ap (λ f. f link) (same_occupancy i) in
+      let time = ap (λ f. f link) (same_separation i) in
       let begun = frame.begun in
       let not_ended = frame.not_ended in
       record { begun = omega (arith, start, begun); not_ended = omega (arith, start, time, not_ended) }
 
-  occupies_as : (list : List ℕ) (i link t : ℕ) → Occupies (held network offsets) list i link t → Occupies network list i link t
-  occupies_as list i link t occupied =
+  keeps_as : (list : List ℕ) (i link t : ℕ) → Keeps (held network offsets) list i link t → Keeps network list i link t
+  keeps_as list i link t kept =
       record {
-        shift = occupied.shift;
-        sent = subst (λ xs. Contains xs occupied.shift) (same_shifts i) occupied.sent;
-        frame = frame_as list i occupied.shift link t occupied.frame;
+        shift = kept.shift;
+        sent = subst (λ xs. Contains xs kept.shift) (same_shifts i) kept.sent;
+        frame = frame_as list i kept.shift link t kept.frame;
       }
 
-  occupies_of : (list : List ℕ) (i link t : ℕ) → Occupies network list i link t → Occupies (held network offsets) list i link t
-  occupies_of list i link t occupied =
+  keeps_of : (list : List ℕ) (i link t : ℕ) → Keeps network list i link t → Keeps (held network offsets) list i link t
+  keeps_of list i link t kept =
       record {
-        shift = occupied.shift;
-        sent = subst (λ xs. Contains xs occupied.shift) (sym (same_shifts i)) occupied.sent;
-        frame = frame_of list i occupied.shift link t occupied.frame;
+        shift = kept.shift;
+        sent = subst (λ xs. Contains xs kept.shift) (sym (same_shifts i)) kept.sent;
+        frame = frame_of list i kept.shift link t kept.frame;
       }
 
   uses_as : (i link : ℕ) → UsesLink (held network offsets) i link → UsesLink network i link
@@ -244,8 +248,8 @@ module _ (network : Network) (offsets : List (Option ℕ)) where
           omega (arith, within, arrives, period);
       in_time = λ i below. (bounds_in valid i below).in_time;
       disjoint = λ i j link t other first second by_first by_second.
-          valid.disjoint i j link t other (uses_of i link first) (uses_of j link second) (occupies_of list i link t by_first)
-          (occupies_of list j link t by_second);
+          valid.disjoint i j link t other (uses_of i link first) (uses_of j link second) (keeps_of list i link t by_first)
+          (keeps_of list j link t by_second);
     }
 
     offsets_in : IsValid (held network offsets) list → HasOffsets network offsets list
@@ -277,8 +281,8 @@ module _ (network : Network) (offsets : List (Option ℕ)) where
           let there = (held_bounds formed valid has i (counted_of i below)).in_time in
           omega (arith, there, arrives);
       disjoint = λ i j link t other first second by_first by_second.
-          valid.disjoint i j link t other (uses_as i link first) (uses_as j link second) (occupies_as list i link t by_first)
-          (occupies_as list j link t by_second);
+          valid.disjoint i j link t other (uses_as i link first) (uses_as j link second) (keeps_as list i link t by_first)
+          (keeps_as list j link t by_second);
     }
 
     pub keeps_offsets : IsWellFormed network → IsValid (held network offsets) list ↔ (IsValid network list × HasOffsets network offsets list)

@@ -8,8 +8,8 @@ use Rattle.std.proofs.lemmas.List.Elements.{All-set, All-weaker}
 use Rattle.std.proofs.lemmas.List.Sums.{sum_by-set}
 use Rattle.std.proofs.lemmas.List.FromFn.{length-map-range_with_len, get_or-map-range_with_len}
 use Rattle.tsn_model.specs.declared.Link.{Link}
-use Rattle.tsn_model.specs.Network.{Network, Stream, IsWellFormed, IsLink, IsRoute, IsStream, no_stream, stream_count, stream_at, octets_of, hop_count, route_link, link_at, frame_count, nodes_along}
-use Rattle.tsn_model.specs.Timing.{transfer, arrival}
+use Rattle.tsn_model.specs.Network.{Network, Stream, IsWellFormed, IsLink, IsRoute, IsStream, no_stream, stream_count, stream_at, octets_of, route_of, hop_count, route_link, link_at, transfer, hop_delay, frame_count, nodes_along}
+use Rattle.tsn_model.specs.Timing.{arrival}
 use Rattle.tsn_model.specs.Held.{hold, had, held_stream, held}
 use Rattle.tsn_model.proofs.Routes.{rate-pos}
 use Rattle.tsn_model.proofs.Limits.{hops-pos, route_exists}
@@ -167,6 +167,32 @@ module _ (network : Network) (formed : IsWellFormed network) (i offset : ℕ) (b
         latest = omega arith;
       }
 
+  -- the streams take as long as before
+  alike_over : (k : ℕ) → ((stream_at (over (set network.streams i (hold network i offset))) k).octets ≡ (stream_at network k).octets)
+      × ((stream_at (over (set network.streams i (hold network i offset))) k).route ≡ (stream_at network k).route)
+  unfolding stream_at
+  alike_over k = elim (cases_eq k i) [
+    | inl here ↦
+        let placed = get_or-set_same network.streams i (hold network i offset) no_stream below in (
+          ap (λ n. (get_or (set network.streams i (hold network i offset)) n no_stream).octets) here
+              ∙ (ap (λ (s : Stream). s.octets) placed ∙ ap (λ n. (get_or network.streams n no_stream).octets) (sym here)),
+          ap (λ n. (get_or (set network.streams i (hold network i offset)) n no_stream).route) here
+              ∙ (ap (λ (s : Stream). s.route) placed ∙ ap (λ n. (get_or network.streams n no_stream).route) (sym here)),
+        )
+    | inr there ↦
+        let kept = get_or-set_other network.streams i k (hold network i offset) no_stream there in
+        (ap (λ (s : Stream). s.octets) kept, ap (λ (s : Stream). s.route) kept)
+  ]
+
+  bears_over : (k hop : ℕ) → k < stream_count network → hop + 1 < hop_count (over (set network.streams i (hold network i offset))) k
+      → network.slack < hop_delay (over (set network.streams i (hold network i offset))) k
+      (route_link (over (set network.streams i (hold network i offset))) k hop)
+  unfolding hop_delay transfer octets_of route_of link_at
+  bears_over k hop counted within =
+      let alike = alike_over k in
+      let past = formed.after_start k hop counted (subst (λ route. hop + 1 < length route) alike.1 within) in
+      rw (alike.0, alike.1) past
+
   pub well_held : IsWellFormed (record network { streams = set network.streams i (hold network i offset) })
   unfolding stream_at frame_count
   well_held =
@@ -177,6 +203,7 @@ module _ (network : Network) (formed : IsWellFormed network) (i offset : ℕ) (b
       record {
         some_cycle = formed.some_cycle;
         short_cycle = formed.short_cycle;
+        short_slack = formed.short_slack;
         few_nodes = formed.few_nodes;
         few_links = formed.few_links;
         some_stream = rw count formed.some_stream;
@@ -186,4 +213,5 @@ module _ (network : Network) (formed : IsWellFormed network) (i offset : ℕ) (b
         links = All-weaker (IsLink network) (IsLink (over streams)) (link_over streams) network.links formed.links;
         streams = All-weaker (IsStream network) (IsStream (over streams)) (stream_over streams) streams
             (All-set (IsStream network) network.streams i (hold network i offset) held_formed formed.streams);
+        after_start = λ k hop counted within. bears_over k hop (omega (arith, counted, count)) within;
       }

@@ -6,7 +6,7 @@ use Rattle.tsn_model.specs.Network.{Network, IsWellFormed, IsLink, IsStream, str
 use Rattle.tsn_model.proofs.Lists.{greatest-le}
 use Rattle.tsn_model.proofs.Shifts.{part_below, place-le, turns-mul-le, period-le-cycle}
 use Rattle.tsn_model.proofs.Routes.{rate-pos}
-use Rattle.tsn_model.specs.Timing.{occupancy, pace, spread, transfer, hop_delay, start}
+use Rattle.tsn_model.specs.Timing.{occupancy, separation, pace, spread, transfer, hop_delay, start}
 
 module _ (network : Network) (formed : IsWellFormed network) where
   stream_formed : (i : ℕ) → i < stream_count network → IsStream network (stream_at network i)
@@ -73,6 +73,13 @@ module _ (network : Network) (formed : IsWellFormed network) where
       let product : 0 < (octets_of network i + 20) * (link_at network link).octet_time = mul-pos (omega arith) rate in
       omega arith
 
+  pub separation-le : (i link : ℕ) → i < stream_count network → link < length network.links → separation network i link ≤ 1233600
+  unfolding separation
+  separation-le i link stream_below link_below =
+      let occupied = occupancy-le i link stream_below link_below in
+      let slack = formed.short_slack in
+      omega arith
+
   pub transfer-le : (i link : ℕ) → i < stream_count network → link < length network.links → transfer network i link ≤ 2224000
   unfolding transfer
   transfer-le i link stream_below link_below =
@@ -110,8 +117,8 @@ module _ (network : Network) (formed : IsWellFormed network) where
   pub pace-le : (i : ℕ) → i < stream_count network → pace network i ≤ 1233600
   unfolding pace
   pace-le i below =
-      greatest-le (map (occupancy network i) (route_of network i)) 1233600
-      (All-map (λ x. x ≤ 1233600) (occupancy network i) (route_of network i) (λ k d inside. occupancy-le i _ below (route_exists i below k d inside)))
+      greatest-le (map (separation network i) (route_of network i)) 1233600
+      (All-map (λ x. x ≤ 1233600) (separation network i) (route_of network i) (λ k d inside. separation-le i _ below (route_exists i below k d inside)))
 
   pub spread-le : (i : ℕ) → i < stream_count network → spread network i ≤ 18504000
   unfolding spread

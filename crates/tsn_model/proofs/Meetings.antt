@@ -1,7 +1,7 @@
--- Streams that occupy a link at a common instant, by comparing the ends of two frames' occupancies.
+-- Streams that keep a link at a common instant, by comparing the ends of two frames' times there.
 use Rattle.std.proofs.Common.{◌≡◌, ℕ, ◌+◌, ◌*◌, ◌<◌, max, List, subst, arith}
 use Rattle.tsn_model.specs.Network.{Network, turns_of, period_of, burst_of}
-use Rattle.tsn_model.specs.Timing.{occupancy, pace, UsesLink, start_on}
+use Rattle.tsn_model.specs.Timing.{separation, pace, UsesLink, start_on}
 use Rattle.tsn_model.specs.Schedule.{offset_of}
 use Rattle.tsn_model.specs.PlainWords.{Meet, IsHit, Hits}
 use Rattle.tsn_model.proofs.Shifts.{parts_of, sent_from}
@@ -28,8 +28,8 @@ hits_to network i link first begin time hits =
     record { turn = parts.turn; place = parts.place; in_cycle = parts.in_cycle; in_burst = parts.in_burst; hit = subst (IsHit network i link first begin time) parts.is hits.hit }
 
 module _ (network : Network) (offsets : List ℕ) (i j link first second time : ℕ) where
-  pub meet_from : UsesLink network i link → UsesLink network j link → 0 < occupancy network i link → 0 < occupancy network j link
-      → first ≡ offset_of offsets i + start_on network i link → second ≡ offset_of offsets j + start_on network j link → time ≡ occupancy network i link
+  pub meet_from : UsesLink network i link → UsesLink network j link → 0 < separation network i link → 0 < separation network j link
+      → first ≡ offset_of offsets i + start_on network i link → second ≡ offset_of offsets j + start_on network j link → time ≡ separation network i link
       → (turn place begin : ℕ) → turn < turns_of network i → place < burst_of network i → begin ≡ first + (turn * period_of network i + place * pace network i)
       → Hits network j link second begin time → Meet network offsets i j link
   meet_from i_uses j_uses i_some j_some first_is second_is time_is turn place begin in_cycle in_burst begin_is hits =
@@ -52,7 +52,7 @@ module _ (network : Network) (offsets : List ℕ) (i j link first second time : 
     pub in_burst : place < burst_of network i
     pub hits : Hits network j link second (first + (turn * period_of network i + place * pace network i)) time
 
-  pub meet_to : first ≡ offset_of offsets i + start_on network i link → second ≡ offset_of offsets j + start_on network j link → time ≡ occupancy network i link
+  pub meet_to : first ≡ offset_of offsets i + start_on network i link → second ≡ offset_of offsets j + start_on network j link → time ≡ separation network i link
       → Meet network offsets i j link → MeetAt
   meet_to first_is second_is time_is meet =
       let parts = parts_of network i meet.by_i.shift meet.by_i.sent in

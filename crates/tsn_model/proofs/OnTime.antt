@@ -10,7 +10,7 @@ use Rattle.tsn_model.specs.Kept.{KeepsOctet, KeepsWantedGates}
 use Rattle.tsn_model.specs.Early.{IsDelayed, IsEarlyRun, AreSpacedOn, ToleratesOn, Tolerates, readiness, HoldsTo, ToleratesLead, slack_sum}
 use Rattle.tsn_model.proofs.Lists.{Contains-cons_cases, Contains-nil, Contains-head, Contains-more}
 use Rattle.tsn_model.proofs.Hops.{passage_cases, hop_delay-pos}
-use Rattle.tsn_model.proofs.EarlyRuns.{readiness_first, readiness_next, no_lead, uses, after_window, starts_in_time, wanted_hold, no_lead_tolerated}
+use Rattle.tsn_model.proofs.EarlyRuns.{readiness_first, readiness_next, no_lead, uses, after_window, after_slack, starts_in_time, wanted_hold, no_lead_tolerated}
 
 -- ---- the gates that a schedule asks for keep themselves
 
@@ -65,6 +65,14 @@ module _ (network : Network) (formed : IsWellFormed network) (offsets : List ℕ
         (subst (UsesLink network first.stream) (first_link ∙ sym second_link) (uses network formed offsets valid cycles first first_passage))));
     after_start = after;
   }
+
+-- every valid schedule tolerates the slack that its network asks for
+pub slack_tolerated : (network : Network) → IsWellFormed network → (offsets : List ℕ) → IsValid network offsets → Tolerates network offsets (λ link. network.slack)
+slack_tolerated network formed offsets valid link = record {
+  spaced = λ cycles first second first_passage second_passage first_link second_link less.
+      after_slack network formed offsets valid cycles first second first_passage second_passage (first_link ∙ sym second_link) less;
+  after_start = λ i k counted within same. formed.after_start i k counted within;
+}
 
 -- ---- leads
 

@@ -18,7 +18,7 @@ use Rattle.tsn_model.specs.declared.Side.TheVariants.{Left, Right}
 use Rattle.tsn_model.specs.declared.Decision.{Decision}
 use Rattle.tsn_model.specs.declared.Arc.{Arc}
 use Rattle.tsn_model.specs.Network.{Network, stream_count, release_of}
-use Rattle.tsn_model.specs.Timing.{occupancy, arrival}
+use Rattle.tsn_model.specs.Timing.{separation, arrival}
 use Rattle.tsn_model.specs.Schedule.{IsValid, IsConflict, IsNotAfter, offset_of, flowspan, latest_offset}
 use Rattle.tsn_model.specs.Arcs.{arc_of, Holds}
 use Rattle.tsn_model.specs.Certificate.{least, IsFrameOn, begin_on, end_on}
@@ -166,7 +166,7 @@ unit_of view (fact ∷ facts) = fact
 
 -- ---- frames on a link
 
--- the earliest start of a frame on the link, and the latest end of its occupancy there
+-- the earliest start of a frame on the link, and the latest instant until which it keeps it
 unfoldable pub head_at : Network → View → ℕ → Frame → ℤ
 head_at network view link frame = low_at view frame.stream +ℤ pos (begin_on network link frame)
 
@@ -187,7 +187,7 @@ last_end network view link frames = most (map (end_at network view link) frames)
 
 -- how long the frames occupy the link, one after another
 unfoldable pub work_on : Network → ℕ → List Frame → ℕ
-work_on network link frames = sum_by (λ frame. occupancy network frame.stream link) frames
+work_on network link frames = sum_by (λ frame. separation network frame.stream link) frames
 
 -- different frames that use the link
 pub record AreOn (network : Network) (link : ℕ) (frames : List Frame) : Type 0 where

@@ -1,8 +1,7 @@
-use Rattle.std.proofs.Common.{◌≡◌, ◌+◌, ◌∙◌, true≢false, sym, subst, refl, arith, inl, inr}
+use Rattle.std.proofs.Common.{◌≡◌, ◌+◌, ◌∙◌, true≢false, sym, refl, arith, inl, inr}
 use Rattle.std.proofs.lemmas.Bool.{cases_lt}
-use Rattle.tsn_model.specs.Network.{IsWellFormed}
 use Rattle.tsn_model.specs.Schedule.{offset_of}
-use Rattle.tsn_model.proofs.Routes.{hop_on_found, occupancy-pos}
+use Rattle.tsn_model.proofs.Routes.{hop_on_found, separation-pos}
 use Rattle.tsn_model.proofs.Meetings.{meet_from, meet_to}
 use Rattle.tsn_model.proofs.plain.PlainNetwork.meet.Goals as goal
 
@@ -18,15 +17,14 @@ start-requires-2-clause-hop c =
 
 pub returns-then-hits : goal.returns-then-hits
 returns-then-hits c =
-    let formed = subst IsWellFormed c.self.view_is c.self.invariant in
     let left = hop_on_found c.args.self.now c.args.left c.args.link c.in-Some-Some.a (sym c.hop_on.ensures ∙ c.in-Some-Some.is-0) in
     let right = hop_on_found c.args.self.now c.args.right c.args.link c.in-Some-Some.b (sym c.hop_on-2.ensures ∙ c.in-Some-Some.is-1) in
     let left_start = c.start.ensures.value ∙ left.2 in
     let right_start = c.start-2.ensures.value ∙ right.2 in (
       λ always. meet_from c.args.self.now c.args.offsets.now c.args.left c.args.right c.args.link (offset_of c.args.offsets.now c.args.left + c.start.result)
-          (offset_of c.args.offsets.now c.args.right + c.start-2.result) c.occupancy-time.result left.0 right.0
-          (occupancy-pos c.args.self.now c.args.left c.args.link formed left.0) (occupancy-pos c.args.self.now c.args.right c.args.link formed right.0)
-          (omega arith) (omega arith) c.occupancy-time.ensures.value c.loop-turn.turn c.loop-place.place
+          (offset_of c.args.offsets.now c.args.right + c.start-2.result) c.separation-time.result left.0 right.0
+          (separation-pos c.args.self.now c.args.left c.args.link) (separation-pos c.args.self.now c.args.right c.args.link)
+          (omega arith) (omega arith) c.separation-time.ensures.value c.loop-turn.turn c.loop-place.place
           (offset_of c.args.offsets.now c.args.left + c.start.result + c.shift.result) (omega arith) (omega arith) (omega arith)
           (c.hits.ensures.0 c.if-hits.true),
       λ meet. refl,
@@ -52,7 +50,7 @@ returns c =
       λ never. absurd (true≢false (sym never)),
       λ meet.
           let at = meet_to c.args.self.now c.args.offsets.now c.args.left c.args.right c.args.link
-          (offset_of c.args.offsets.now c.args.left + c.start.result) (offset_of c.args.offsets.now c.args.right + c.start-2.result) c.occupancy-time.result
-          (omega arith) (omega arith) c.occupancy-time.ensures.value meet in
+          (offset_of c.args.offsets.now c.args.left + c.start.result) (offset_of c.args.offsets.now c.args.right + c.start-2.result) c.separation-time.result
+          (omega arith) (omega arith) c.separation-time.ensures.value meet in
           absurd (c.loop-turn.invariant.none at.turn at.place (omega arith) at.in_burst at.hits),
     )
