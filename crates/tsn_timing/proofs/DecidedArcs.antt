@@ -8,7 +8,7 @@ use Rattle.tsn_model.specs.declared.Decision.{Decision}
 use Rattle.tsn_model.specs.declared.Triple.{Triple}
 use Rattle.tsn_model.specs.Network.{Network, IsWellFormed, route_link}
 use Rattle.tsn_model.specs.Schedule.{IsConflict}
-use Rattle.tsn_model.specs.Timing.{occupancy, start, hop_on, start_on}
+use Rattle.tsn_model.specs.Timing.{separation, start, hop_on, start_on}
 use Rattle.tsn_model.specs.Arcs.{arc_between, arc_on, arc_of}
 use Rattle.tsn_model.proofs.Limits.{period-le}
 use Rattle.tsn_model.proofs.Routes.{hop_on_found, hop_on_link}
@@ -41,11 +41,11 @@ arc_same arc other from to weight = λ k. record { from = from k; to = to k; wei
 
 -- by the hops on which its two streams use the link
 pub arc_weighs : (network : Network) (i j link first second : ℕ) (lag : ℤ) → Some first ≡ hop_on network i link → Some second ≡ hop_on network j link
-    → (pos (start network i first + occupancy network i (route_link network i first)) -ℤ pos (start network j second)) -ℤ lag ≡
+    → (pos (start network i first + separation network i (route_link network i first)) -ℤ pos (start network j second)) -ℤ lag ≡
     (arc_between network i j link lag).weight
 unfolding arc_between
 arc_weighs network i j link first second lag on_first on_second =
     let starts : start network i first ≡ start_on network i link = (hop_on_found network i link first (sym on_first)).2 in
     let same_link : route_link network i first ≡ link = hop_on_link network i link first (sym on_first) in
     let other_starts : start network j second ≡ start_on network j link = (hop_on_found network j link second (sym on_second)).2 in
-    λ k. (pos (starts k + occupancy network i (same_link k)) -ℤ pos (other_starts k)) -ℤ lag
+    λ k. (pos (starts k + separation network i (same_link k)) -ℤ pos (other_starts k)) -ℤ lag

@@ -4,9 +4,9 @@ use Rattle.std.specs.Prelude.{◌+ℤ◌, ◌-ℤ◌, ◌<ℤ◌}
 use Rattle.std.specs.Int.{int_max, int_min}
 use Rattle.std.proofs.lemmas.Int.{ints, clamps}
 use Rattle.tsn_model.specs.Network.{Network, IsWellFormed, stream_count, period_of}
-use Rattle.tsn_model.specs.Timing.{occupancy, UsesLink, start_on}
+use Rattle.tsn_model.specs.Timing.{separation, UsesLink, start_on}
 use Rattle.tsn_model.specs.Schedule.{offset_of}
-use Rattle.tsn_model.proofs.Routes.{occupancy-pos}
+use Rattle.tsn_model.proofs.Routes.{separation-pos}
 use Rattle.tsn_timing.specs.Judgement.{IsBetween, IsLeastBetween, IsOverlapOf, AreApartOn, IsLeastOverlap}
 
 module _ (network : Network) (offsets : List ℕ) (left right link first second : ℕ) (low high : ℤ) where
@@ -19,8 +19,8 @@ module _ (network : Network) (offsets : List ℕ) (left right link first second 
     pub right_uses : UsesLink network right link
     pub first_is : first ≡ offset_of offsets left + start_on network left link
     pub second_is : second ≡ offset_of offsets right + start_on network right link
-    pub low_is : low ≡ int_max ((pos first -ℤ pos second) -ℤ pos (occupancy network right link)) (neg_ℤ (pos (period_of network right)))
-    pub high_is : high ≡ int_min ((pos first -ℤ pos second) +ℤ pos (occupancy network left link)) (pos (period_of network left))
+    pub low_is : low ≡ int_max ((pos first -ℤ pos second) -ℤ pos (separation network right link)) (neg_ℤ (pos (period_of network right)))
+    pub high_is : high ≡ int_min ((pos first -ℤ pos second) +ℤ pos (separation network left link)) (pos (period_of network left))
 
   between_of : AreBounds → (lag : ℤ) → IsOverlapOf network offsets left right link lag → IsBetween network left right low high lag
   between_of bounds lag overlap =
@@ -55,15 +55,15 @@ module _ (network : Network) (offsets : List ℕ) (left right link first second 
       let below = between.after.below in
       let low_is = bounds.low_is in
       let high_is = bounds.high_is in
-      let left_some = occupancy-pos network left link bounds.formed bounds.left_uses in
-      let right_some = occupancy-pos network right link bounds.formed bounds.right_uses in
-      let after : (lag <ℤ ((pos first -ℤ pos second) +ℤ pos (occupancy network left link))) × (lag <ℤ pos (period_of network left)) =
+      let left_some = separation-pos network left link in
+      let right_some = separation-pos network right link in
+      let after : (lag <ℤ ((pos first -ℤ pos second) +ℤ pos (separation network left link))) × (lag <ℤ pos (period_of network left)) =
       (omega (arith, ints, clamps, high_is, below), omega (arith, ints, clamps, high_is, below)) in
-      let before : (((pos first -ℤ pos second) -ℤ pos (occupancy network right link)) <ℤ lag) × (pos 0 <ℤ (lag +ℤ pos (period_of network right))) =
+      let before : (((pos first -ℤ pos second) -ℤ pos (separation network right link)) <ℤ lag) × (pos 0 <ℤ (lag +ℤ pos (period_of network right))) =
       (omega (arith, ints, clamps, low_is, above), omega (arith, ints, clamps, low_is, above)) in
-      let right_in : second + between.after.second + 1 ≤ first + between.first + occupancy network left link = let near = after.0 in omega
+      let right_in : second + between.after.second + 1 ≤ first + between.first + separation network left link = let near = after.0 in omega
       (arith, ints, is, near) in
-      let left_in : first + between.first + 1 ≤ second + between.after.second + occupancy network right link = let near = before.0 in omega
+      let left_in : first + between.first + 1 ≤ second + between.after.second + separation network right link = let near = before.0 in omega
       (arith, ints, is, near) in (
         grind arith,
         record {

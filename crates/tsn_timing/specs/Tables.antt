@@ -2,7 +2,7 @@
 use Rattle.std.specs.Prelude.{◌≡◌, ℕ, ◌+◌, ◌≤◌, ◌<◌, List, length, slice_index_or, All}
 use Rattle.tsn_model.specs.declared.bounds.TheConstants.{MAX_OCCUPANCY, MAX_SPREAD, MAX_SPAN, MAX_START}
 use Rattle.tsn_model.specs.Network.{Network, IsWellFormed, stream_count, period_of, hop_count, route_link}
-use Rattle.tsn_model.specs.Timing.{occupancy, pace, spread, shifts, start, arrival, span}
+use Rattle.tsn_model.specs.Timing.{occupancy, separation, pace, spread, shifts, start, arrival, span}
 use Rattle.tsn_timing.specs.declared.tables.Hop.{Hop}
 use Rattle.tsn_timing.specs.declared.tables.StreamTable.{StreamTable}
 
@@ -18,6 +18,9 @@ pub record IsHop (network : Network) (i k : ℕ) (hop : Hop) : Type 0 where
   pub occupies : hop.occupancy ≡ occupancy network i (route_link network i k)
   pub some : 1 ≤ hop.occupancy
   pub short : hop.occupancy ≤ MAX_OCCUPANCY
+  pub keeps : hop.separation ≡ separation network i (route_link network i k)
+  pub apart : 1 ≤ hop.separation
+  pub near : hop.separation ≤ MAX_OCCUPANCY
   pub early : hop.start ≤ MAX_START
 
 -- the numbers of stream i, with how large they are at most

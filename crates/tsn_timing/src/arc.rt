@@ -57,7 +57,7 @@ pub fn arc_of(timing: &Timing, decision: Decision) -> Arc
     let Some(second_hop) = timing.hop_on(second, triple.link) else {
         unreachable!();
     };
-    let end = timing.start(first, first_hop) + timing.occupancy(first, first_hop);
+    let end = timing.start(first, first_hop) + timing.separation(first, first_hop);
     Arc {
         from: first,
         to: second,

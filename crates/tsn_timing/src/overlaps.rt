@@ -85,8 +85,8 @@ impl Timing {
         let first = offsets[left] + self.start(left, hop);
         let second = offsets[right] + self.start(right, other);
         let gap = first as i64 - second as i64;
-        let above = gap - self.occupancy(right, other) as i64;
-        let below = gap + self.occupancy(left, hop) as i64;
+        let above = gap - self.separation(right, other) as i64;
+        let below = gap + self.separation(left, hop) as i64;
         self.least_lag(
             left,
             right,

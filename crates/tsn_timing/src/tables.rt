@@ -8,16 +8,17 @@ use std::alloc::{AllocError, Global};
 use tsn_model::bounds::MAX_SPREAD;
 use tsn_model::plain::PlainNetwork;
 
-/// A hop of a stream: its link, when the frame starts on it, counted from the offset, and how long the frame occupies it.
+/// A hop of a stream: its link, when the frame starts on it, counted from the offset, and how long it occupies and keeps it.
 #[derive(Clone, Copy)]
 pub struct Hop {
     pub link: usize,
     pub start: u64,
     pub occupancy: u64,
+    pub separation: u64,
 }
 
 /// A stream: its period, how far apart the frames of a burst start, and how far the first and the last one; how long after
-/// its offset it starts each frame; its hops, when its last octet arrives, and when its last occupancy has ended too.
+/// its offset it starts each frame; its hops, when its last octet arrives, and when its last frame keeps no link any more either.
 #[derive(Drop)]
 pub struct StreamTable {
     pub period: u64,
@@ -40,6 +41,7 @@ fn hops_of(alloc: Global, network: &PlainNetwork, stream: usize) -> Result<Vec<H
             link,
             start: network.start(stream, hop),
             occupancy: network.occupancy(stream, link),
+            separation: network.separation(stream, link),
         })?;
     }
     Ok(hops)

@@ -41,7 +41,7 @@ impl Model for Timing {
 
 impl Timing {
     ghost use Rattle.tsn_model.specs.Network.{IsWellFormed, stream_count, turns_of, period_of, burst_of, hop_count, route_link, link_at, release_of, latest_of};
-    ghost use Rattle.tsn_model.specs.Timing.{occupancy, pace, spread, shifts, start, arrival, span, hop_on};
+    ghost use Rattle.tsn_model.specs.Timing.{occupancy, separation, pace, spread, shifts, start, arrival, span, hop_on};
     ghost use Rattle.tsn_model.specs.Schedule.{IsValid, IsFirstViolation, FitsPeriod, IsReleased, IsInTime, flowspan};
     ghost use Rattle.tsn_timing.specs.Judgement.{Judges, IsFirstPastPeriod, IsFirstEarly, IsFirstTooLate};
 
@@ -87,6 +87,14 @@ impl Timing {
         ensures bound { result ≤ 1_000_000_000 }
     {
         self.network.cycle()
+    }
+
+    /// How early frames may be ready on each link, in nanoseconds, at most 1,000,000.
+    pub fn slack(&self) -> u64
+        ensures value { result ≡ self.now.slack }
+        ensures bound { result ≤ 1_000_000 }
+    {
+        self.network.slack()
     }
 
     /// How many directed links there are, at most 1024.
@@ -221,6 +229,18 @@ impl Timing {
         self.tables[stream].hops[hop].occupancy
     }
 
+    /// How long from its start a stream's frame keeps the link of a hop to itself: as long as it occupies it, and for more than
+    /// the slack; in nanoseconds, 1 to `MAX_OCCUPANCY`.
+    pub fn separation(&self, stream: usize, hop: usize) -> u64
+        requires stream { stream < stream_count self.now }
+        requires hop { hop < hop_count self.now stream }
+        ensures value { result ≡ separation self.now stream (route_link self.now stream hop) }
+        ensures some { 1 ≤ result }
+        ensures bound { result ≤ MAX_OCCUPANCY }
+    {
+        self.tables[stream].hops[hop].separation
+    }
+
     /// When a stream's frame starts on a hop, counted from the stream's offset, in nanoseconds, at most `MAX_START`.
     pub fn start(&self, stream: usize, hop: usize) -> u64
         requires stream { stream < stream_count self.now }
@@ -241,8 +261,8 @@ impl Timing {
         self.tables[stream].arrival
     }
 
-    /// The end of a period's last occupancy, or its arrival where that is later, counted from the stream's offset, in
-    /// nanoseconds, at most `MAX_SPAN`.
+    /// When a period's last frame keeps no link any more, or its arrival where that is later, counted from the stream's offset,
+    /// in nanoseconds, at most `MAX_SPAN`.
     pub fn span(&self, stream: usize) -> u64
         requires { stream < stream_count self.now }
         ensures value { result ≡ span self.now stream }

@@ -3,7 +3,7 @@ use Rattle.std.specs.Prelude.{◌+ℤ◌, ◌-ℤ◌, ◌<ℤ◌}
 use Rattle.std.proofs.lemmas.Int.{ints}
 use Rattle.tsn_model.specs.declared.Arc.{Arc}
 use Rattle.tsn_model.specs.Network.{route_link}
-use Rattle.tsn_model.specs.Timing.{occupancy, start}
+use Rattle.tsn_model.specs.Timing.{separation, start}
 use Rattle.tsn_model.specs.Arcs.{arc_between, arc_of}
 use Rattle.tsn_model.proofs.Routes.{hop_on_found}
 use Rattle.tsn_timing.proofs.DecidedArcs.{arc_left, arc_right, lag_bounds, arc_ends, arc_same, arc_weighs}
@@ -15,8 +15,8 @@ start-requires-clause-hop c =
     let found = hop_on_found c.args.timing.now c.match-decision.first.0 c.args.decision.triple.link c.in-Some.first_hop (sym c.in-Some.ensures) in
     found.1
 
-pub occupancy-requires-clause-hop : goal.occupancy-requires-clause-hop
-occupancy-requires-clause-hop c =
+pub separation-requires-clause-hop : goal.separation-requires-clause-hop
+separation-requires-clause-hop c =
     let found = hop_on_found c.args.timing.now c.match-decision.first.0 c.args.decision.triple.link c.in-Some.first_hop (sym c.in-Some.ensures) in
     found.1
 
@@ -60,7 +60,7 @@ returns-clause-arc c =
     let first = c.in-Some.first_hop in
     let second = c.in-Some-hop_on.second_hop in
     let weighs :
-    (pos (start network ends.0 first + occupancy network ends.0 (route_link network ends.0 first)) -ℤ pos (start network ends.1 second)) -ℤ lag ≡
+    (pos (start network ends.0 first + separation network ends.0 (route_link network ends.0 first)) -ℤ pos (start network ends.1 second)) -ℤ lag ≡
     (arc_of network decision).weight = cc (arc_weighs network ends.0 ends.1 decision.triple.link first second lag c.in-Some.ensures c.in-Some-hop_on.ensures) in
     let joins = arc_ends network ends.0 ends.1 decision.triple.link lag in
     arc_same _ _ (sym (ap (λ (a : Arc). a.from) arc ∙ joins.0)) (sym (ap (λ (a : Arc). a.to) arc ∙ joins.1))

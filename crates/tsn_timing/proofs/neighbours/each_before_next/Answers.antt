@@ -5,5 +5,5 @@ use Rattle.tsn_timing.proofs.neighbours.each_before_next.Goals as goal
 pub loop-index-preserved : goal.loop-index-preserved
 loop-index-preserved c =
     let n = c.loop-index.index in
-    one_more_follows c.args.occupancies.now (n - 1) n (omega arith) (omega arith) c.requires
-    (read_before c.args.occupancies.now (n - 1) n _ _ (omega arith) (omega arith) (c.is_before.ensures.0 c.if-not-is_before.false)) c.loop-index.invariant
+    one_more_follows c.args.slots.now (n - 1) n (omega arith) (omega arith) c.requires
+    (read_before c.args.slots.now (n - 1) n _ _ (omega arith) (omega arith) (c.is_before.ensures.0 c.if-not-is_before.false)) c.loop-index.invariant

@@ -1,7 +1,7 @@
 use Rattle.std.proofs.Common.{◌≡◌, ◌<◌, ◌+◌, ◌∙◌, Some, sym, ap, arith}
 use Rattle.std.proofs.lemmas.Int.{ints, clamps}
 use Rattle.tsn_model.specs.Network.{stream_count, route_link}
-use Rattle.tsn_model.specs.Timing.{occupancy, hop_on}
+use Rattle.tsn_model.specs.Timing.{separation, hop_on}
 use Rattle.tsn_model.specs.Schedule.{offset_of}
 use Rattle.tsn_model.proofs.Routes.{hop_on_found, hop_on_link}
 use Rattle.tsn_model.proofs.Hops.{hop_uses, hop_start}
@@ -13,8 +13,8 @@ start-requires-2-clause-hop c =
     let on : hop_on c.args.self.now c.args.right c.route_link.result ≡ Some c.in-Some.other = sym c.hop_on.ensures ∙ c.in-Some.is in
     (hop_on_found c.args.self.now c.args.right c.route_link.result c.in-Some.other on).1
 
-pub occupancy-requires-clause-hop : goal.occupancy-requires-clause-hop
-occupancy-requires-clause-hop c =
+pub separation-requires-clause-hop : goal.separation-requires-clause-hop
+separation-requires-clause-hop c =
     let on : hop_on c.args.self.now c.args.right c.route_link.result ≡ Some c.in-Some.other = sym c.hop_on.ensures ∙ c.in-Some.is in
     (hop_on_found c.args.self.now c.args.right c.route_link.result c.in-Some.other on).1
 
@@ -31,7 +31,7 @@ returns c =
     let found = hop_on_found network right link c.in-Some.other on in
     let left_start = c.start.ensures.value ∙ sym (hop_start network formed left left_below c.args.hop c.requires.hop) in
     let right_start = c.start-2.ensures.value ∙ found.2 in
-    let right_occupancy = c.occupancy.ensures.value ∙ ap (occupancy network right) (hop_on_link network right link c.in-Some.other on) in
+    let right_separation = c.separation.ensures.value ∙ ap (separation network right) (hop_on_link network right link c.in-Some.other on) in
     let left_small = c.requires.small left 0 (omega arith) in
     let right_small = c.requires.small right 0 (let counted = c.requires.right in omega arith) in
     judged network offsets left right link (offset_of offsets left + c.start.result) (offset_of offsets right + c.start-2.result) _ _

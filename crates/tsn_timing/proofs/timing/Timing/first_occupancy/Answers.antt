@@ -1,7 +1,0 @@
-use Rattle.tsn_timing.proofs.Neighbouring.{first_is}
-use Rattle.tsn_timing.proofs.timing.Timing.first_occupancy.Goals as goal
-
-pub returns-clause-value : goal.returns-clause-value
-returns-clause-value c =
-    first_is c.args.self.now c.args.offset c.args.stream c.args.hop c.start.result c.route_link.result c.occupancy.result c.start.ensures.value
-    c.route_link.ensures.value c.occupancy.ensures.value
