@@ -7,7 +7,7 @@ use Rattle.std.proofs.lemmas.List.{map-append, take_more, take_all, length-appen
 use Rattle.std.proofs.lemmas.List.Sums.{fold-append, sum_by-append}
 use Rattle.tsn_model.specs.Network.{Network}
 use Rattle.tsn_model.specs.declared.Frame.{Frame}
-use Rattle.tsn_model.specs.Timing.{occupancy}
+use Rattle.tsn_model.specs.Timing.{separation}
 use Rattle.tsn_model.specs.Certificate.{least, IsFrameOn}
 use Rattle.tsn_model.specs.Argument.{View, head_at, end_at, most, first_head, last_end, work_on, AreOn}
 use Rattle.tsn_model.proofs.Lists.{least-map_push}
@@ -27,7 +27,7 @@ module _ (network : Network) (view : View) (link : ℕ) where
   load_push first xs y old next new is more head end work = record {
     head = head ∙ (λ i. int_min (is.head i) (more.head i)) ∙ sym (least-map_push (head_at network view link) (first ∷ xs) y (omega arith));
     end = end ∙ (λ i. int_max (is.end i) (more.end i)) ∙ sym (most-map_push (end_at network view link) xs first y);
-    work = work ∙ (λ i. is.work i + more.work i) ∙ sym (sum_by-append (λ f. occupancy network f.stream link) (first ∷ xs) (y ∷ []));
+    work = work ∙ (λ i. is.work i + more.work i) ∙ sym (sum_by-append (λ f. separation network f.stream link) (first ∷ xs) (y ∷ []));
     head_low = omega (arith, ints, clamps, head, is.head_low, more.head_low);
     head_high = omega (arith, ints, clamps, head, is.head_high, more.head_high);
     end_low = omega (arith, ints, clamps, end, is.end_low, more.end_low);

@@ -2,7 +2,7 @@
 ghost use Rattle.std.specs.Prelude.{◌<◌, OnOk, ◌≡◌, ◌≤◌, ◌+◌, [], ◌∷◌, false, length, All, MatchBool};
 ghost use Rattle.std.specs.Int.{int_min, int_max};
 ghost use Rattle.tsn_model.specs.declared.bounds.TheConstants.{MAX_OCCUPANCY};
-ghost use Rattle.tsn_model.specs.Timing.{occupancy};
+ghost use Rattle.tsn_model.specs.Timing.{separation};
 ghost use Rattle.tsn_model.specs.Certificate.{IsFrameOn, begin_on, end_on};
 ghost use Rattle.tsn_argue.specs.State.{view_of, IsSound};
 ghost use Rattle.tsn_argue.specs.Seen.{Tells};
@@ -124,7 +124,7 @@ fn is_same(one: Frame, other: Frame) -> bool
     one == other
 }
 
-/// When a frame starts on a link, counted from its stream's offset, and how long it occupies it, in nanoseconds.
+/// When a frame starts on a link, counted from its stream's offset, and how long it keeps it, in nanoseconds.
 #[derive(Clone, Copy)]
 pub struct Visit {
     pub begin: u64,
@@ -136,7 +136,7 @@ pub fn visit_of(timing: &Timing, link: usize, frame: Frame) -> Visit
     requires { IsFrameOn timing.now link frame }
     ensures begin { result.begin ≡ begin_on timing.now link frame }
     ensures end { result.begin + result.work ≡ end_on timing.now link frame }
-    ensures work { result.work ≡ occupancy timing.now frame.stream link }
+    ensures work { result.work ≡ separation timing.now frame.stream link }
     ensures early { result.begin ≤ 1_500_000_000 }
     ensures short { result.work ≤ MAX_OCCUPANCY }
 {
@@ -146,11 +146,11 @@ pub fn visit_of(timing: &Timing, link: usize, frame: Frame) -> Visit
         unreachable!();
     };
     let begin = frame.shift + timing.start(frame.stream, hop);
-    let work = timing.occupancy(frame.stream, hop);
+    let work = timing.separation(frame.stream, hop);
     Visit { begin, work }
 }
 
-/// What frames come to on a link: before its head none starts, by its end each is done with it, and so long they occupy it, one
+/// What frames come to on a link: before its head none starts, by its end each is done with it, and so long they keep it, one
 /// after another; in nanoseconds.
 #[derive(Clone, Copy)]
 pub struct Load {

@@ -12,12 +12,12 @@ use Rattle.std.proofs.lemmas.List.Elements.{filter-append, filter_passes, All-he
 use Rattle.std.proofs.lemmas.List.FromFn.{length-range_with_len}
 use Rattle.std.proofs.lemmas.List.Sums.{sum_by-append, sum_by-le}
 use Rattle.tsn_model.specs.Network.{Network, IsWellFormed, stream_count, hop_count, route_link}
-use Rattle.tsn_model.specs.Timing.{occupancy, arrival, hop_on, UsesLink, start_on}
+use Rattle.tsn_model.specs.Timing.{separation, arrival, hop_on, UsesLink, start_on}
 use Rattle.tsn_model.specs.Certificate.{least}
 use Rattle.tsn_branch.specs.Links.{users_of, shared_links, work_on, tail_on, head_by, busy_by, load_by, IsUnloaded}
 use Rattle.tsn_branch.specs.Loads.{SharedLink, IsEarly, head_in, link_in, user_on, link_with, shared_link, users_upto, shared_upto}
 use Rattle.tsn_model.proofs.Lists.{least-map_push, least-one, range_more}
-use Rattle.tsn_model.proofs.Limits.{start-le, occupancy-le, transfer-le, hops-pos, route_exists, spread-le}
+use Rattle.tsn_model.proofs.Limits.{start-le, separation-le, transfer-le, hops-pos, route_exists, spread-le}
 use Rattle.tsn_model.proofs.Routes.{use_of, UsesLink-counted, UsesLink-exists}
 use Rattle.tsn_branch.specs.declared.loads.User.{User}
 use Rattle.tsn_branch.specs.declared.loads.LinkTable.{LinkTable}
@@ -38,7 +38,7 @@ kept_same p n fails =
 
 module _ (network : Network) (link : ℕ) where
   tail_at : ℕ → ℤ
-  tail_at i = pos (arrival network i) -ℤ pos (start_on network i link + occupancy network i link)
+  tail_at i = pos (arrival network i) -ℤ pos (start_on network i link + separation network i link)
 
   tails_push : (streams : List ℕ) (i : ℕ) (old tail : ℤ) → old ≡ least (map tail_at streams) → (length streams ≡ 0 → tail ≡ tail_at i) → (0 < length streams → tail ≡ int_min old (tail_at i))
       → tail ≡ least (map tail_at (streams ++ i ∷ []))
@@ -48,17 +48,17 @@ module _ (network : Network) (link : ℕ) where
 
   -- one stream more
   pub link_taken : (old new : SharedLink) (streams : List ℕ) (i : ℕ) → old ≡ link_with network link streams → new.link ≡ old.link → new.users ≡ old.users ++ user_on network link i ∷ []
-      → new.work ≡ old.work + occupancy network i link
-      → (length old.users ≡ 0 → new.tail ≡ pos (arrival network i) -ℤ pos (start_on network i link + occupancy network i link))
-      → (0 < length old.users → new.tail ≡ int_min old.tail (pos (arrival network i) -ℤ pos (start_on network i link + occupancy network i link)))
+      → new.work ≡ old.work + separation network i link
+      → (length old.users ≡ 0 → new.tail ≡ pos (arrival network i) -ℤ pos (start_on network i link + separation network i link))
+      → (0 < length old.users → new.tail ≡ int_min old.tail (pos (arrival network i) -ℤ pos (start_on network i link + separation network i link)))
       → new ≡ link_with network link (streams ++ i ∷ [])
   unfolding link_with tail_at
   link_taken old new streams i is same users work first more =
       let long : length old.users ≡ length streams = ap (λ s. length s.users) is ∙ length-map streams (user_on network link) in
       let all_users : new.users ≡ map (user_on network link) (streams ++ i ∷ []) =
       users ∙ ap (λ s. s.users ++ user_on network link i ∷ []) is ∙ sym (map_push (user_on network link) streams i) in
-      let all_work : new.work ≡ sum_by (λ j. occupancy network j link) (streams ++ i ∷ []) =
-      work ∙ ap (λ s. s.work + occupancy network i link) is ∙ omega (arith, sum_by-append (λ j. occupancy network j link) streams (i ∷ [])) in
+      let all_work : new.work ≡ sum_by (λ j. separation network j link) (streams ++ i ∷ []) =
+      work ∙ ap (λ s. s.work + separation network i link) is ∙ omega (arith, sum_by-append (λ j. separation network j link) streams (i ∷ [])) in
       let all_tail : new.tail ≡ least (map tail_at (streams ++ i ∷ [])) =
       tails_push streams i old.tail new.tail (ap (λ s. s.tail) is) (λ none. first (long ∙ none)) (λ some. more (omega (arith, long))) in
       λ k. record { link = (same ∙ ap (λ s. s.link) is) k; users = all_users k; work = all_work k; tail = all_tail k }
@@ -164,8 +164,8 @@ module _ (network : Network) (formed : IsWellFormed network) (link : ℕ) where
       let short = start-le network formed i used.hop (UsesLink-counted network i link uses) in
       omega arith
 
-  pub occupies-le : (i : ℕ) → UsesLink network i link → occupancy network i link ≤ 1233600
-  occupies-le i uses = occupancy-le network formed i link (UsesLink-counted network i link uses) (UsesLink-exists network i link formed uses)
+  pub keeps-le : (i : ℕ) → UsesLink network i link → separation network i link ≤ 1233600
+  keeps-le i uses = separation-le network formed i link (UsesLink-counted network i link uses) (UsesLink-exists network i link formed uses)
 
   pub arrival-le : (i : ℕ) → UsesLink network i link → arrival network i ≤ 80000000
   unfolding arrival
@@ -182,8 +182,8 @@ module _ (network : Network) (formed : IsWellFormed network) (link : ℕ) where
   pub work_on-le : work_on network link ≤ 157900800
   unfolding work_on
   work_on-le =
-      let each : All (λ i. occupancy network i link ≤ 1233600) (users_of network link) = λ k d below. occupies-le (get_or (users_of network link) k d) (users_use k d below) in
-      let whole = sum_by-le (λ i. occupancy network i link) 1233600 (users_of network link) each in
+      let each : All (λ i. separation network i link ≤ 1233600) (users_of network link) = λ k d below. keeps-le (get_or (users_of network link) k d) (users_use k d below) in
+      let whole = sum_by-le (λ i. separation network i link) 1233600 (users_of network link) each in
       let few = users_few in
       omega arith
 
@@ -194,14 +194,14 @@ module _ (network : Network) (formed : IsWellFormed network) (link : ℕ) where
 
   -- the least tail of some of the link's streams
   pub tail-bounds : (streams : List ℕ) → All (λ i. UsesLink network i link) streams → 0 < length streams
-      → IsShortTail (least (map (λ i. pos (arrival network i) -ℤ pos (start_on network i link + occupancy network i link)) streams))
+      → IsShortTail (least (map (λ i. pos (arrival network i) -ℤ pos (start_on network i link + separation network i link)) streams))
   tail-bounds streams used some =
-      let tail : ℕ → ℤ = λ i. pos (arrival network i) -ℤ pos (start_on network i link + occupancy network i link) in
+      let tail : ℕ → ℤ = λ i. pos (arrival network i) -ℤ pos (start_on network i link + separation network i link) in
       least_of_some IsShortTail (map tail streams) (omega (arith, length-map streams tail))
       (All-map IsShortTail tail streams (λ k d below.
       let uses = used k d below in
       let begins = start_on-le (get_or streams k d) uses in
-      let works = occupies-le (get_or streams k d) uses in
+      let works = keeps-le (get_or streams k d) uses in
       let ends = arrival-le (get_or streams k d) uses in
       record { low = omega (arith, ints); high = omega (arith, ints) }))
 
@@ -210,10 +210,10 @@ module _ (network : Network) (formed : IsWellFormed network) (link : ℕ) where
   tail_on-bounds some = tail-bounds (users_of network link) users_use some
 
   -- some of the link's streams don't occupy it for long
-  pub work-le : (streams : List ℕ) → All (λ i. UsesLink network i link) streams → length streams ≤ 128 → sum_by (λ i. occupancy network i link) streams ≤ 157900800
+  pub work-le : (streams : List ℕ) → All (λ i. UsesLink network i link) streams → length streams ≤ 128 → sum_by (λ i. separation network i link) streams ≤ 157900800
   work-le streams used few =
-      let each : All (λ i. occupancy network i link ≤ 1233600) streams = λ k d below. occupies-le (get_or streams k d) (used k d below) in
-      let whole = sum_by-le (λ i. occupancy network i link) 1233600 streams each in
+      let each : All (λ i. separation network i link ≤ 1233600) streams = λ k d below. keeps-le (get_or streams k d) (used k d below) in
+      let whole = sum_by-le (λ i. separation network i link) 1233600 streams each in
       omega arith
 
   pub tail_on-low : 0 < length (users_of network link) → pos 0 ≤ℤ (tail_on network link +ℤ pos 80000000)

@@ -9,7 +9,7 @@ use Rattle.std.proofs.lemmas.List.Sums.{sum_by-cons}
 use Rattle.tsn_model.specs.declared.Decision.{Decision}
 use Rattle.tsn_model.specs.declared.Frame.{Frame}
 use Rattle.tsn_model.specs.Network.{Network, IsWellFormed, stream_count}
-use Rattle.tsn_model.specs.Timing.{occupancy, Sends, arrival, hop_on, UsesLink, start_on}
+use Rattle.tsn_model.specs.Timing.{separation, Sends, arrival, hop_on, UsesLink, start_on}
 use Rattle.tsn_model.specs.Schedule.{offset_of}
 use Rattle.tsn_model.specs.Certificate.{Entry, AreEntries, begin_on, end_on, least, head_of, tail_of, work_of, busy_until, load_bound}
 use Rattle.tsn_model.proofs.Lists.{AllPairs-range, All-unmap}
@@ -44,7 +44,7 @@ module _ (network : Network) (path : List Decision) (offsets : List ℕ) (link :
   start_of i = pos (offset_of offsets i + start_on network i link)
 
   abbrev rest_of : ℕ → ℤ
-  rest_of i = pos (arrival network i) -ℤ pos (start_on network i link + occupancy network i link)
+  rest_of i = pos (arrival network i) -ℤ pos (start_on network i link + separation network i link)
 
   AreFirst : List Entry → Type 0
   AreFirst entries = All (λ (entry : Entry). entry.frame.shift ≡ 0) entries
@@ -92,13 +92,13 @@ module _ (network : Network) (path : List Decision) (offsets : List ℕ) (link :
       let here : head_of network path link entry ≡ start_of (stream_of entry) = omega (arith, ints, sum, here_first) in
       λ k. here k ∷ rest k
 
-  works : (entries : List Entry) → work_of network link entries ≡ sum_by (λ i. occupancy network i link) (map stream_of entries)
+  works : (entries : List Entry) → work_of network link entries ≡ sum_by (λ i. separation network i link) (map stream_of entries)
   unfolding work_of
   works [] = refl
   works (entry ∷ entries) =
       let rest = works entries in
-      sum_by-cons (λ (e : Entry). occupancy network e.frame.stream link) entry entries ∙ ap (λ n. occupancy network entry.frame.stream link + n) rest
-      ∙ sym (sum_by-cons (λ i. occupancy network i link) entry.frame.stream (map stream_of entries))
+      sum_by-cons (λ (e : Entry). separation network e.frame.stream link) entry entries ∙ ap (λ n. separation network entry.frame.stream link + n) rest
+      ∙ sym (sum_by-cons (λ i. separation network i link) entry.frame.stream (map stream_of entries))
 
   tails : (entries : List Entry) → AreFirst entries → map (tail_of network link) entries ≡ map rest_of (map stream_of entries)
   unfolding tail_of end_on begin_on AreFirst
@@ -114,7 +114,7 @@ module _ (network : Network) (path : List Decision) (offsets : List ℕ) (link :
   busy_shown entries shows =
       let same = streams_are entries (users_of network link) shows.frames in
       let head = ap least (heads entries (are_first entries (users_of network link) shows.frames) shows.chains ∙ ap (map start_of) same) in
-      let work = works entries ∙ ap (sum_by (λ i. occupancy network i link)) same in
+      let work = works entries ∙ ap (sum_by (λ i. separation network i link)) same in
       λ k. head k +ℤ pos (work k)
 
   pub load_shown : (entries : List Entry) → ShowsLink network path offsets link entries → load_bound network path link entries ≡ load_by network offsets link

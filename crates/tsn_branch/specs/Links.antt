@@ -6,7 +6,7 @@
 use Rattle.std.specs.Prelude.{◌≡◌, ℕ, ◌+◌, List, map, length, take, filter, slice_get, Some, is_some, nat_le, sum_by, All, ℤ, pos, ◌+ℤ◌, ◌-ℤ◌, ◌≤ℤ◌, ◌<ℤ◌}
 use Rattle.std.specs.List.{range_with_len}
 use Rattle.tsn_model.specs.Network.{Network, stream_count}
-use Rattle.tsn_model.specs.Timing.{occupancy, arrival, hop_on, start_on}
+use Rattle.tsn_model.specs.Timing.{separation, arrival, hop_on, start_on}
 use Rattle.tsn_model.specs.Schedule.{offset_of}
 use Rattle.tsn_model.specs.Certificate.{least}
 
@@ -18,13 +18,13 @@ users_of network link = filter (λ i. is_some (hop_on network i link)) (range_wi
 unfoldable pub shared_links : Network → List ℕ
 shared_links network = filter (λ link. nat_le 2 (length (users_of network link))) (range_with_len 0 (length network.links))
 
--- how long the first frames of the link's streams occupy it, one after another
+-- how long the first frames of the link's streams keep it, one after another
 unfoldable pub work_on : Network → ℕ → ℕ
-work_on network link = sum_by (λ i. occupancy network i link) (users_of network link)
+work_on network link = sum_by (λ i. separation network i link) (users_of network link)
 
--- how long after its first frame's occupancy of the link one of its streams arrives at the soonest; below 0 where the gap outlasts the arrival
+-- how long after its first frame has kept the link one of its streams arrives at the soonest; below 0 where it keeps it past its arrival
 unfoldable pub tail_on : Network → ℕ → ℤ
-tail_on network link = least (map (λ i. pos (arrival network i) -ℤ pos (start_on network i link + occupancy network i link)) (users_of network link))
+tail_on network link = least (map (λ i. pos (arrival network i) -ℤ pos (start_on network i link + separation network i link)) (users_of network link))
 
 -- the earliest instant at which, put at its offset, one of the link's streams starts there
 unfoldable pub head_by : Network → List ℕ → ℕ → ℤ

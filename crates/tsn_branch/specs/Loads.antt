@@ -8,7 +8,7 @@ use Rattle.std.specs.Prelude.{◌≡◌, ℕ, ◌+◌, ◌≤◌, ◌<◌, nat_l
 use Rattle.std.specs.List.{range_with_len}
 use Rattle.tsn_model.specs.declared.bounds.TheConstants.{MAX_START}
 use Rattle.tsn_model.specs.Network.{Network}
-use Rattle.tsn_model.specs.Timing.{occupancy, arrival, hop_on, start_on}
+use Rattle.tsn_model.specs.Timing.{separation, arrival, hop_on, start_on}
 use Rattle.tsn_model.specs.Schedule.{offset_of}
 use Rattle.tsn_model.specs.Certificate.{Entry, least}
 use Rattle.tsn_diff.specs.Offsets.{LeastOffsets, chain_of}
@@ -20,7 +20,7 @@ use Rattle.tsn_branch.specs.declared.loads.FirstLoad.TheVariants.{Overload, Load
 use Rattle.tsn_branch.specs.declared.loads.Loading.{Loading}
 use Rattle.tsn_branch.specs.declared.loads.Loading.TheVariants.{Closed, Open}
 
--- a link, when its streams start there from their offsets on, how long they occupy it, and their least tail
+-- a link, when its streams start there from their offsets on, how long they keep it, and their least tail
 pub record SharedLink : Type 0 where
   pub link : ℕ
   pub users : List User
@@ -36,8 +36,8 @@ unfoldable pub link_with : Network → ℕ → List ℕ → SharedLink
 link_with network link streams = record {
   link = link;
   users = map (user_on network link) streams;
-  work = sum_by (λ i. occupancy network i link) streams;
-  tail = least (map (λ i. pos (arrival network i) -ℤ pos (start_on network i link + occupancy network i link)) streams);
+  work = sum_by (λ i. separation network i link) streams;
+  tail = least (map (λ i. pos (arrival network i) -ℤ pos (start_on network i link + separation network i link)) streams);
 }
 
 -- those of the first n streams that use the link

@@ -24,10 +24,10 @@ pub struct LinkTable {
     pub link: usize,
     /// The streams, in order.
     pub users: Vec<User>,
-    /// How long the streams' first frames occupy the link, one after another.
+    /// How long the streams' first frames keep the link, one after another.
     pub work: u64,
-    /// How long after its first frame's occupancy of the link one of the streams arrives at the soonest; below 0 where its gap
-    /// outlasts its arrival.
+    /// How long after its first frame has kept the link one of the streams arrives at the soonest; below 0 where it keeps it
+    /// past its arrival.
     pub tail: i64,
 }
 
@@ -157,7 +157,7 @@ impl LinkTable {
         ensures short { OnOk result (self.new.work ≤ self.old.work + MAX_OCCUPANCY) }
     {
         let start = timing.start(stream, hop);
-        let work = timing.occupancy(stream, hop);
+        let work = timing.separation(stream, hop);
         let tail = timing.arrival(stream) as i64 - (start + work) as i64;
         let least = if self.users.is_empty() {
             tail

@@ -13,7 +13,7 @@ use Rattle.std.proofs.lemmas.List.Quantifiers.{all_pairs_push}
 use Rattle.tsn_model.specs.declared.Decision.{Decision}
 use Rattle.tsn_model.specs.declared.Frame.{Frame}
 use Rattle.tsn_model.specs.Network.{Network}
-use Rattle.tsn_model.specs.Timing.{occupancy, arrival}
+use Rattle.tsn_model.specs.Timing.{separation, arrival}
 use Rattle.tsn_model.specs.Certificate.{Entry, load, IsFrameOn, begin_on, end_on, LeadsTo, AreEntries, sum_on, least, head_of, tail_of, work_of, busy_until, load_bound}
 use Rattle.tsn_model.proofs.Lists.{least-map_push, least-one}
 use Rattle.tsn_check.specs.Faults.{IsWrongEntry, IsFirstWrong}
@@ -56,9 +56,9 @@ lesser P x y least is p q = subst P (sym is) (elim (int_lt y x) as (λ b. P (con
 module _ (network : Network) (path : List Decision) (link : ℕ) where
   work-push : (entries : List Entry) (entry : Entry) → work_of network link (entries ++ entry ∷ []) ≡ work_of network link entries + work_of network link (entry ∷ [])
   unfolding work_of
-  work-push entries entry = sum_by-append (λ (e : Entry). occupancy network e.frame.stream link) entries (entry ∷ [])
+  work-push entries entry = sum_by-append (λ (e : Entry). separation network e.frame.stream link) entries (entry ∷ [])
 
-  work-one : (entry : Entry) → work_of network link (entry ∷ []) ≡ occupancy network entry.frame.stream link
+  work-one : (entry : Entry) → work_of network link (entry ∷ []) ≡ separation network entry.frame.stream link
   unfolding work_of
   work-one entry = omega arith
 
@@ -78,7 +78,7 @@ module _ (network : Network) (path : List Decision) (link : ℕ) where
 
   -- one entry
   pub one_load : (entry : Entry) (found : LinkLoad) (sum : ℤ) (begin work end : ℕ) → sum ≡ sum_on network path entry.chain entry.frame.stream → begin ≡ begin_on network link entry.frame
-      → work ≡ occupancy network entry.frame.stream link → end ≡ arrival network entry.frame.stream → pos 0 ≤ℤ (sum +ℤ pos 135680000000) → sum ≤ℤ pos 136680000000
+      → work ≡ separation network entry.frame.stream link → end ≡ arrival network entry.frame.stream → pos 0 ≤ℤ (sum +ℤ pos 135680000000) → sum ≤ℤ pos 136680000000
       → begin ≤ 1080000000 → work ≤ 1233600 → end ≤ 80000000
       → found.head ≡ sum +ℤ pos begin → found.work ≡ work → found.tail ≡ pos end -ℤ pos (begin + work) → IsLoad network path link (entry ∷ []) found
   unfolding least head_of tail_of end_on

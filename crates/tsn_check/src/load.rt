@@ -20,10 +20,10 @@ use tsn_timing::Timing;
 pub struct LinkLoad {
     /// The earliest instant at which one of their frames may start on the link.
     pub head: i64,
-    /// How long the frames occupy the link.
+    /// How long the frames keep the link.
     pub work: u64,
-    /// How long after the occupancy of the link by one of the frames its stream's first period is through at the soonest; below 0
-    /// where it is through before.
+    /// How long after one of the frames has kept the link its stream's first period is through at the soonest; below 0 where it
+    /// is through before.
     pub tail: i64,
 }
 
@@ -81,7 +81,7 @@ fn entry_load(
     }
     let sum = sum_to(timing, path, stream, &entry.chain)?;
     let begin = begin_of(timing, frame, hop);
-    let work = timing.occupancy(stream, hop);
+    let work = timing.separation(stream, hop);
     Ok(LinkLoad {
         head: sum + begin as i64,
         work,

@@ -6,7 +6,7 @@ use Rattle.std.proofs.lemmas.List.Elements.{Contains-get_or}
 use Rattle.tsn_model.specs.declared.Triple.{Triple}
 use Rattle.tsn_model.specs.Network.{Network}
 use Rattle.tsn_model.specs.Arcs.{arc_between, arc_on}
-use Rattle.tsn_model.specs.Timing.{occupancy, start_on}
+use Rattle.tsn_model.specs.Timing.{separation, start_on}
 use Rattle.tsn_model.specs.Schedule.{IsConflict, Overlaps, offset_of}
 use Rattle.tsn_model.proofs.Overlaps.{overlap_from}
 use Rattle.tsn_conflict.specs.declared.uses.Use.{Use}
@@ -28,9 +28,9 @@ module _ (network : Network) (kept : Kept) (is : AreConflictsOf network kept) wh
     left : Reads network kept.uses triple.left triple.link
     right : Reads network kept.uses triple.right triple.link
     left_start : (use_in kept.uses triple.left triple.link).start ≡ start_on network triple.left triple.link
-    left_occupancy : (use_in kept.uses triple.left triple.link).occupancy ≡ occupancy network triple.left triple.link
+    left_separation : (use_in kept.uses triple.left triple.link).separation ≡ separation network triple.left triple.link
     right_start : (use_in kept.uses triple.right triple.link).start ≡ start_on network triple.right triple.link
-    right_occupancy : (use_in kept.uses triple.right triple.link).occupancy ≡ occupancy network triple.right triple.link
+    right_separation : (use_in kept.uses triple.right triple.link).separation ≡ separation network triple.right triple.link
 
   read : (triple : Triple) → IsConflict network triple → IsRead triple
   read triple conflict =
@@ -53,16 +53,16 @@ module _ (network : Network) (kept : Kept) (is : AreConflictsOf network kept) wh
       let found = read triple conflict in
       let lag = overlaps.is in
       let left_start = found.left_start in
-      let left_occupancy = found.left_occupancy in
+      let left_separation = found.left_separation in
       let right_start = found.right_start in
-      let right_occupancy = found.right_occupancy in
+      let right_separation = found.right_separation in
       let left_begun = overlaps.by_left.begun in
       let left_ends = overlaps.by_left.not_ended in
       let right_begun = overlaps.by_right.begun in
       let right_ends = overlaps.by_right.not_ended in
       record {
-        left_begun = omega (arith, ints, lag, left_start, right_start, right_occupancy, left_begun, right_ends);
-        right_begun = omega (arith, ints, lag, left_start, right_start, left_occupancy, right_begun, left_ends);
+        left_begun = omega (arith, ints, lag, left_start, right_start, right_separation, left_begun, right_ends);
+        right_begun = omega (arith, ints, lag, left_start, right_start, left_separation, right_begun, left_ends);
       }
 
   pub overlaps_from : (offsets : List ℕ) (triple : Triple) → IsConflict network triple → Meets kept.uses offsets triple → Overlaps network offsets triple
@@ -70,14 +70,14 @@ module _ (network : Network) (kept : Kept) (is : AreConflictsOf network kept) wh
   overlaps_from offsets triple conflict meets =
       let found = read triple conflict in
       let left_start = found.left_start in
-      let left_occupancy = found.left_occupancy in
+      let left_separation = found.left_separation in
       let right_start = found.right_start in
-      let right_occupancy = found.right_occupancy in
+      let right_separation = found.right_separation in
       let left_begun = meets.left_begun in
       let right_begun = meets.right_begun in
       overlap_from network offsets triple is.formed conflict
-      (λ holds. omega (arith, ints, holds, left_start, left_occupancy, right_start, right_begun))
-      (λ holds. omega (arith, ints, holds, left_start, right_start, right_occupancy, left_begun))
+      (λ holds. omega (arith, ints, holds, left_start, left_separation, right_start, right_begun))
+      (λ holds. omega (arith, ints, holds, left_start, right_start, right_separation, left_begun))
 
 -- ---- by the bounds of the gap of the offsets
 

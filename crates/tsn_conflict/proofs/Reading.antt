@@ -5,41 +5,41 @@ use Rattle.std.specs.List.{range_with_len}
 use Rattle.std.proofs.lemmas.Bool.{lt-ltb}
 use Rattle.std.proofs.lemmas.List.FromFn.{length-map-range_with_len, get_or-map-range_with_len, map-range_with_len_more}
 use Rattle.tsn_model.specs.Network.{Network, IsWellFormed, stream_count}
-use Rattle.tsn_model.specs.Timing.{occupancy, start, hop_on, UsesLink, start_on}
-use Rattle.tsn_model.proofs.Routes.{hop_on_found, UsesLink-counted, UsesLink-exists}
-use Rattle.tsn_model.proofs.Limits.{occupancy-le, occupancy-ge, start-le}
+use Rattle.tsn_model.specs.Timing.{separation, start, hop_on, UsesLink, start_on}
+use Rattle.tsn_model.proofs.Routes.{separation-pos, hop_on_found, UsesLink-counted, UsesLink-exists}
+use Rattle.tsn_model.proofs.Limits.{separation-le, start-le}
 use Rattle.tsn_conflict.specs.declared.uses.Use.{Use}
 use Rattle.tsn_model.specs.Arcs.{conflicts_of}
 use Rattle.tsn_conflict.specs.Kept.{Kept, use_at, uses_of, use_in, AreConflictsOf}
 
 module _ (network : Network) (i link : ℕ) where
-  pub use_at-hop : (hop : ℕ) → hop_on network i link ≡ Some hop → use_at network i link ≡ record { start = start network i hop; occupancy = occupancy network i link }
+  pub use_at-hop : (hop : ℕ) → hop_on network i link ≡ Some hop → use_at network i link ≡ record { start = start network i hop; separation = separation network i link }
   unfolding use_at
   use_at-hop hop on = rw on refl
 
-  pub use_at-none : hop_on network i link ≡ None → use_at network i link ≡ record { start = 0; occupancy = 0 }
+  pub use_at-none : hop_on network i link ≡ None → use_at network i link ≡ record { start = 0; separation = 0 }
   unfolding use_at
   use_at-none off = rw off refl
 
-  used_by : (hop : Option ℕ) → hop_on network i link ≡ hop → UsesLink network i link → use_at network i link ≡ record { start = start_on network i link; occupancy = occupancy network i link }
+  used_by : (hop : Option ℕ) → hop_on network i link ≡ hop → UsesLink network i link → use_at network i link ≡ record { start = start_on network i link; separation = separation network i link }
   used_by None off uses = let none : false ≡ true = ap is_some (sym off) ∙ uses in cc
   used_by (Some hop) on uses =
       let same : start network i hop ≡ start_on network i link = (hop_on_found network i link hop on).2 in
-      use_at-hop hop on ∙ (λ k. record { start = same k; occupancy = occupancy network i link })
+      use_at-hop hop on ∙ (λ k. record { start = same k; separation = separation network i link })
 
-  -- a stream that uses the link starts there and occupies it as the timing says
-  pub use_at-used : UsesLink network i link → use_at network i link ≡ record { start = start_on network i link; occupancy = occupancy network i link }
+  -- a stream that uses the link starts there and keeps it as the timing says
+  pub use_at-used : UsesLink network i link → use_at network i link ≡ record { start = start_on network i link; separation = separation network i link }
   use_at-used uses = used_by (hop_on network i link) refl uses
 
-  occupied_by : (hop : Option ℕ) → hop_on network i link ≡ hop → IsWellFormed network → link < length network.links → nat_lt 0 (use_at network i link).occupancy ≡ is_some (hop_on network i link)
-  occupied_by None off formed below = rw (use_at-none off, off) refl
-  occupied_by (Some hop) on formed below =
-      let some = occupancy-ge network formed i link below in
-      rw (use_at-hop hop on, on) (lt-ltb 0 (occupancy network i link) (omega arith))
+  kept_by : (hop : Option ℕ) → hop_on network i link ≡ hop → IsWellFormed network → link < length network.links → nat_lt 0 (use_at network i link).separation ≡ is_some (hop_on network i link)
+  kept_by None off formed below = rw (use_at-none off, off) refl
+  kept_by (Some hop) on formed below =
+      let some = separation-pos network i link in
+      rw (use_at-hop hop on, on) (lt-ltb 0 (separation network i link) (omega arith))
 
-  -- it occupies the link for some time exactly where it uses it
-  pub use_at-occupied : IsWellFormed network → link < length network.links → nat_lt 0 (use_at network i link).occupancy ≡ is_some (hop_on network i link)
-  use_at-occupied formed below = occupied_by (hop_on network i link) refl formed below
+  -- it keeps the link for some time exactly where it uses it
+  pub use_at-kept : IsWellFormed network → link < length network.links → nat_lt 0 (use_at network i link).separation ≡ is_some (hop_on network i link)
+  use_at-kept formed below = kept_by (hop_on network i link) refl formed below
 
 -- ---- the uses of the first streams
 
@@ -81,17 +81,17 @@ pub link_exists : (network : Network) (uses : List (List Use)) (i link : ℕ) �
 link_exists network uses i link same below inside = let long = ap (λ (us : List (List Use)). length (get_or us i [])) same ∙ length-row network i below in omega arith
 
 -- what they have there tells whether the stream uses the link
-pub occupied_in : (network : Network) (uses : List (List Use)) (i link : ℕ) (read : Use) → IsWellFormed network → uses ≡ uses_of network → i < stream_count network → link < length network.links
-    → read ≡ use_in uses i link → nat_lt 0 read.occupancy ≡ is_some (hop_on network i link)
-occupied_in network uses i link read formed same below inside is = grind (arith, use_in-uses_of, use_at-occupied)
+pub kept_in : (network : Network) (uses : List (List Use)) (i link : ℕ) (read : Use) → IsWellFormed network → uses ≡ uses_of network → i < stream_count network → link < length network.links
+    → read ≡ use_in uses i link → nat_lt 0 read.separation ≡ is_some (hop_on network i link)
+kept_in network uses i link read formed same below inside is = grind (arith, use_in-uses_of, use_at-kept)
 
 -- a stream's use of a link, as it is read: where it is kept, what it is, and how large its numbers are
 pub record Reads (network : Network) (uses : List (List Use)) (i link : ℕ) : Type 0 where
   pub row_kept : i < length uses
   pub link_kept : link < length (get_or uses i [])
-  pub value : use_in uses i link ≡ record { start = start_on network i link; occupancy = occupancy network i link }
+  pub value : use_in uses i link ≡ record { start = start_on network i link; separation = separation network i link }
   pub early : start_on network i link ≤ 51584000
-  pub short : occupancy network i link ≤ 1233600
+  pub short : separation network i link ≤ 1233600
 
 pub Reads-used : (network : Network) (uses : List (List Use)) (i link : ℕ) → IsWellFormed network → uses ≡ uses_of network → UsesLink network i link → Reads network uses i link
 Reads-used network uses i link formed same used =
@@ -100,7 +100,7 @@ Reads-used network uses i link formed same used =
     let rows = length-uses_of network in
     let long = length-row network i counted in
     let hop = start_hop in
-    grind (arith, row_kept, link_kept, use_in-uses_of, use_at-used, occupancy-le)
+    grind (arith, row_kept, link_kept, use_in-uses_of, use_at-used, separation-le)
   where
     start_hop : start_on network i link ≤ 51584000
     start_hop = start_by (hop_on network i link) refl

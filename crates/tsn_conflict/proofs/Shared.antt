@@ -7,8 +7,8 @@ use Rattle.tsn_model.specs.Arcs.{is_conflict}
 use Rattle.tsn_model.proofs.Lists.{All-range}
 use Rattle.tsn_conflict.specs.declared.uses.Use.{Use}
 use Rattle.tsn_conflict.specs.Kept.{uses_of}
-use Rattle.tsn_conflict.specs.Rows.{is_occupied, triples_on, triples_with}
-use Rattle.tsn_conflict.proofs.Reading.{link_kept, occupied_in}
+use Rattle.tsn_conflict.specs.Rows.{is_kept, triples_on, triples_with}
+use Rattle.tsn_conflict.proofs.Reading.{link_kept, kept_in}
 use Rattle.tsn_conflict.proofs.Triples.{Decide, both_pass, on_both, not_on_left, not_on_right}
 
 module _ (network : Network) (uses : List (List Use)) (same : uses ≡ uses_of network) where
@@ -19,17 +19,17 @@ module _ (network : Network) (uses : List (List Use)) (same : uses ≡ uses_of n
   all_kept i below = All-range (λ link. link < length (get_or uses i [])) (length network.links) 0
       (λ link _ inside. link_kept network uses i link same below (omega arith))
 
-  pub used_kept : (i j : ℕ) → j < stream_count network → All (λ link. link < length (get_or uses j [])) (filter (is_occupied uses i) all_links)
-  used_kept i j below = All-filter (is_occupied uses i) (λ link. link < length (get_or uses j [])) all_links (all_kept j below)
+  pub used_kept : (i j : ℕ) → j < stream_count network → All (λ link. link < length (get_or uses j [])) (filter (is_kept uses i) all_links)
+  used_kept i j below = All-filter (is_kept uses i) (λ link. link < length (get_or uses j [])) all_links (all_kept j below)
 
   module _ (formed : IsWellFormed network) (i j : ℕ) (order : i < j) (counted : j < stream_count network) where
-    decide : (link : ℕ) → link < length network.links → Decide (is_occupied uses i) (is_occupied uses j) (is_conflict network) (triples_on network i j) link
-    decide link inside = grind (arith, occupied_in, on_both, not_on_right, not_on_left)
+    decide : (link : ℕ) → link < length network.links → Decide (is_kept uses i) (is_kept uses j) (is_conflict network) (triples_on network i j) link
+    decide link inside = grind (arith, kept_in, on_both, not_on_right, not_on_left)
 
-    -- their conflicts are the triples on the links that both occupy
-    pub pair_shared : flat_map (triples_on network i j) (filter (is_occupied uses j) (filter (is_occupied uses i) all_links))
+    -- their conflicts are the triples on the links that both keep
+    pub pair_shared : flat_map (triples_on network i j) (filter (is_kept uses j) (filter (is_kept uses i) all_links))
         ≡ filter (is_conflict network) (triples_with network i j)
     pair_shared =
-        both_pass (is_occupied uses i) (is_occupied uses j) (is_conflict network) (triples_on network i j) all_links
-        (All-range (Decide (is_occupied uses i) (is_occupied uses j) (is_conflict network) (triples_on network i j)) (length network.links) 0
+        both_pass (is_kept uses i) (is_kept uses j) (is_conflict network) (triples_on network i j) all_links
+        (All-range (Decide (is_kept uses i) (is_kept uses j) (is_conflict network) (triples_on network i j)) (length network.links) 0
         (λ link _ inside. decide link (omega arith)))

@@ -6,14 +6,14 @@ use Rattle.std.specs.List.{range_with_len}
 use Rattle.std.specs.Option.{option_map_or}
 use Rattle.tsn_model.specs.declared.Triple.{Triple}
 use Rattle.tsn_model.specs.Network.{Network, IsWellFormed, stream_count}
-use Rattle.tsn_model.specs.Timing.{occupancy, start, hop_on}
+use Rattle.tsn_model.specs.Timing.{separation, start, hop_on}
 use Rattle.tsn_model.specs.Arcs.{conflicts_of}
 use Rattle.tsn_conflict.specs.declared.uses.Use.{Use}
 
--- when stream i starts on the link, and how long it occupies it: no time where it doesn't use it
+-- when stream i starts on the link, and how long it keeps it: no time where it doesn't use it
 unfoldable pub use_at : Network → ℕ → ℕ → Use
 use_at network i link =
-    option_map_or (λ hop. record { start = start network i hop; occupancy = occupancy network i link }) (hop_on network i link) (record { start = 0; occupancy = 0 })
+    option_map_or (λ hop. record { start = start network i hop; separation = separation network i link }) (hop_on network i link) (record { start = 0; separation = 0 })
 
 -- each stream's use of each link
 unfoldable pub uses_of : Network → List (List Use)
@@ -26,7 +26,7 @@ pub record Kept : Type 0 where
 
 -- stream i's use of a link
 abbrev pub use_in : List (List Use) → ℕ → ℕ → Use
-use_in uses i link = slice_index_or (slice_index_or uses i []) link (record { start = 0; occupancy = 0 })
+use_in uses i link = slice_index_or (slice_index_or uses i []) link (record { start = 0; separation = 0 })
 
 -- the network is within its limits, and this is what is kept of it
 pub record AreConflictsOf (network : Network) (kept : Kept) : Type 0 where

@@ -17,20 +17,20 @@ pub record IsInUses (uses : List (List Use)) (triple : Triple) : Type 0 where
   pub left_row : triple.left < length uses
   pub left_link : triple.link < length (slice_index_or uses triple.left [])
   pub left_early : (use_in uses triple.left triple.link).start ≤ MAX_START
-  pub left_short : (use_in uses triple.left triple.link).occupancy ≤ MAX_OCCUPANCY
+  pub left_short : (use_in uses triple.left triple.link).separation ≤ MAX_OCCUPANCY
   pub right_row : triple.right < length uses
   pub right_link : triple.link < length (slice_index_or uses triple.right [])
   pub right_early : (use_in uses triple.right triple.link).start ≤ MAX_START
-  pub right_short : (use_in uses triple.right triple.link).occupancy ≤ MAX_OCCUPANCY
+  pub right_short : (use_in uses triple.right triple.link).separation ≤ MAX_OCCUPANCY
   pub not_before : pos 0 <ℤ (triple.lag +ℤ pos 1000000000)
   pub not_after : triple.lag <ℤ pos 1000000000
 
--- by these offsets each of the triple's frames starts on its link before the other one's occupancy ends
+-- by these offsets each of the triple's frames starts on its link before the other one has kept it
 pub record Meets (uses : List (List Use)) (offsets : List ℕ) (triple : Triple) : Type 0 where
   pub left_begun : pos (offset_of offsets triple.left + (use_in uses triple.left triple.link).start)
-      <ℤ (pos (offset_of offsets triple.right + (use_in uses triple.right triple.link).start + (use_in uses triple.right triple.link).occupancy) +ℤ triple.lag)
+      <ℤ (pos (offset_of offsets triple.right + (use_in uses triple.right triple.link).start + (use_in uses triple.right triple.link).separation) +ℤ triple.lag)
   pub right_begun : (pos (offset_of offsets triple.right + (use_in uses triple.right triple.link).start) +ℤ triple.lag)
-      <ℤ pos (offset_of offsets triple.left + (use_in uses triple.left triple.link).start + (use_in uses triple.left triple.link).occupancy)
+      <ℤ pos (offset_of offsets triple.left + (use_in uses triple.left triple.link).start + (use_in uses triple.left triple.link).separation)
 
 -- by how much the right frame starts on the link after the left one, were both offsets 0
 abbrev pub apart_in : List (List Use) → Triple → ℤ
@@ -41,8 +41,8 @@ unfoldable pub pair_in : List (List Use) → Triple → Pair
 pair_in uses triple = record {
   left = triple.left;
   right = triple.right;
-  above = apart_in uses triple -ℤ pos (use_in uses triple.left triple.link).occupancy;
-  below = apart_in uses triple +ℤ pos (use_in uses triple.right triple.link).occupancy;
+  above = apart_in uses triple -ℤ pos (use_in uses triple.left triple.link).separation;
+  below = apart_in uses triple +ℤ pos (use_in uses triple.right triple.link).separation;
 }
 
 -- whether a stream is on either side of a triple

@@ -12,9 +12,9 @@ use Rattle.tsn_conflict.specs.Kept.{use_in}
 abbrev pub uses_in : List Row → List (List Use)
 uses_in rows = map (λ (row : Row). row.uses.items) rows
 
--- whether a stream occupies the link for some time
-abbrev pub is_occupied : List (List Use) → ℕ → ℕ → Bool
-is_occupied uses i link = nat_lt 0 (use_in uses i link).occupancy
+-- whether a stream keeps the link for some time
+abbrev pub is_kept : List (List Use) → ℕ → ℕ → Bool
+is_kept uses i link = nat_lt 0 (use_in uses i link).separation
 
 -- the triples of two streams on a link, those of two streams, and those of a left stream with the first n streams
 abbrev pub triple_on : ℕ → ℕ → ℕ → ℤ → Triple

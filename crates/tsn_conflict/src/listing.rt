@@ -4,7 +4,7 @@ ghost use Rattle.std.specs.List.{range_with_len};
 ghost use Rattle.tsn_model.specs.Network.{IsWellFormed, stream_count};
 ghost use Rattle.tsn_model.specs.Arcs.{is_conflict, conflicts_of};
 ghost use Rattle.tsn_conflict.specs.Kept.{uses_of};
-ghost use Rattle.tsn_conflict.specs.Rows.{is_occupied, uses_in, triple_on, triples_with, triples_left};
+ghost use Rattle.tsn_conflict.specs.Rows.{is_kept, uses_in, triple_on, triples_with, triples_left};
 
 use crate::lags::lags_of;
 use crate::uses::{Row, links_of, used_of};
@@ -61,7 +61,7 @@ fn push_pair(
 ) -> Result<(), AllocError>
     requires formed { IsWellFormed timing.now }
     requires rows { uses_in rows.now ≡ uses_of timing.now }
-    requires used { used.now ≡ filter (is_occupied (uses_in rows.now) left) (range_with_len 0 (length timing.now.links)) }
+    requires used { used.now ≡ filter (is_kept (uses_in rows.now) left) (range_with_len 0 (length timing.now.links)) }
     requires order { left < right }
     requires right { right < stream_count timing.now }
     ensures { IfOk result (λ _. triples.new.items

@@ -28,8 +28,8 @@ fn pair_of(rows: &[Row], triple: Triple) -> Pair
     Pair {
         left: triple.left as u32,
         right: triple.right as u32,
-        above: (apart - left.occupancy as i64) as i32,
-        below: (apart + right.occupancy as i64) as i32,
+        above: (apart - left.separation as i64) as i32,
+        below: (apart + right.separation as i64) as i32,
     }
 }
 

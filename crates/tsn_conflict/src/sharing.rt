@@ -2,7 +2,7 @@
 ghost use Rattle.std.specs.Prelude.{◌≡◌, ◌≤◌, ◌<◌, ◌↔◌, ◌+ℤ◌, ◌≤ℤ◌, ◌<ℤ◌, ℕ, pos, IsTrue, length, All, Contains, MatchOption};
 ghost use Rattle.std.proofs.Common.{neg_ℤ};
 ghost use Rattle.tsn_model.specs.Network.{Network, stream_count};
-ghost use Rattle.tsn_model.specs.Timing.{occupancy, UsesLink, start_on};
+ghost use Rattle.tsn_model.specs.Timing.{separation, UsesLink, start_on};
 ghost use Rattle.tsn_model.specs.Schedule.{IsFirstOverlap, Overlaps, AreApart};
 ghost use Rattle.tsn_model.specs.Arcs.{arc_between, arc_on};
 ghost use Rattle.tsn_conflict.specs.Kept.{AreConflictsOf};
@@ -57,7 +57,7 @@ impl Conflicts {
     }
 
     /// What it asks of the offsets that the frame of this stream of the triple goes first on the link: the other one's starts
-    /// there no earlier than its occupancy ends.
+    /// there no earlier than it has kept it.
     pub fn arc(&self, triple: Triple, side: Side) -> Arc
         requires { Contains self.now.triples triple }
         ensures value { (network : Network) → AreConflictsOf network self.now → result ≡ arc_on network triple side }
@@ -138,7 +138,7 @@ impl Conflicts {
         Arc {
             from: first,
             to: second,
-            weight: (before.start + before.occupancy) as i64 - after.start as i64 - lag,
+            weight: (before.start + before.separation) as i64 - after.start as i64 - lag,
         }
     }
 
@@ -227,9 +227,9 @@ impl Conflicts {
         requires { (network : Network) → AreConflictsOf network self.now → UsesLink network stream link }
         ensures counted { stream < length self.now.uses }
         ensures early { result.start ≤ MAX_START }
-        ensures short { result.occupancy ≤ MAX_OCCUPANCY }
+        ensures short { result.separation ≤ MAX_OCCUPANCY }
         ensures start { (network : Network) → AreConflictsOf network self.now → result.start ≡ start_on network stream link }
-        ensures occupancy { (network : Network) → AreConflictsOf network self.now → result.occupancy ≡ occupancy network stream link }
+        ensures separation { (network : Network) → AreConflictsOf network self.now → result.separation ≡ separation network stream link }
     {
         look_up(&self.rows, stream, link)
     }

@@ -3,17 +3,17 @@ ghost use Rattle.std.specs.Prelude.{◌≡◌, ◌<◌, length, slice_index_or, 
 ghost use Rattle.std.specs.List.{range_with_len};
 ghost use Rattle.tsn_model.specs.Network.{stream_count};
 ghost use Rattle.tsn_conflict.specs.Kept.{use_at, use_in, uses_of};
-ghost use Rattle.tsn_conflict.specs.Rows.{is_occupied, uses_in};
+ghost use Rattle.tsn_conflict.specs.Rows.{is_kept, uses_in};
 
 use std::alloc::{AllocError, Global};
 use tsn_timing::Timing;
 
-/// When a stream's frame starts on a link, counted from the offset, and how long it occupies it. Where the stream
-/// doesn't use the link, it occupies it for no time.
+/// When a stream's frame starts on a link, counted from the offset, and how long it keeps it. Where the stream
+/// doesn't use the link, it keeps it for no time.
 #[derive(Clone, Copy)]
 pub struct Use {
     pub start: u64,
-    pub occupancy: u64,
+    pub separation: u64,
 }
 
 /// A stream's use of each link.
@@ -29,11 +29,11 @@ fn use_of(timing: &Timing, stream: usize, link: usize) -> Use
     match timing.hop_on(stream, link) {
         Some(hop) => Use {
             start: timing.start(stream, hop),
-            occupancy: timing.occupancy(stream, hop),
+            separation: timing.separation(stream, hop),
         },
         None => Use {
             start: 0,
-            occupancy: 0,
+            separation: 0,
         },
     }
 }
@@ -89,11 +89,11 @@ pub fn used_of(
 ) -> Result<Vec<usize>, AllocError>
     requires stream { stream < length (uses_in rows.now) }
     requires links { All (λ link. link < length (slice_index_or (uses_in rows.now) stream [])) links.now }
-    ensures { IfOk result (λ used. used.items ≡ filter (is_occupied (uses_in rows.now) stream) links.now) }
+    ensures { IfOk result (λ used. used.items ≡ filter (is_kept (uses_in rows.now) stream) links.now) }
 {
     let mut used = Vec::new(alloc);
     for &link in links {
-        if look_up(rows, stream, link).occupancy > 0 {
+        if look_up(rows, stream, link).separation > 0 {
             used.push(link)?;
         }
     }

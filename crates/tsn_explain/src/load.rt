@@ -1,4 +1,4 @@
-//! Frames that take a link up together.
+//! Frames that keep a link together.
 use crate::network::TimedNetwork;
 use tsn_argue::View;
 use tsn_model::Frame;
@@ -8,11 +8,11 @@ use tsn_model::Frame;
 pub struct Load {
     /// The earliest start of one of them there.
     pub head: i128,
-    /// How long they take it up together.
+    /// How long they keep it together.
     pub work: i128,
-    /// The latest end of their occupancy.
+    /// The latest instant until which one of them keeps it.
     pub end: i128,
-    /// How long after its occupancy the last of them arrives at least.
+    /// How long after it has kept it the last of them arrives at least.
     pub tail: i128,
 }
 

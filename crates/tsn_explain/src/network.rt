@@ -9,7 +9,7 @@ pub struct TimedNetwork<'a> {
     pub timing: &'a Timing,
 }
 
-/// When a frame starts on a link, and when its occupancy of it ends, counted from its stream's offset.
+/// When a frame starts on a link, and until when it keeps it, counted from its stream's offset.
 #[derive(Clone, Copy, Default)]
 pub struct Visit {
     pub begin: i128,
@@ -25,7 +25,7 @@ pub struct Times {
     /// By when it has to arrive.
     pub latest: i128,
     pub period: i128,
-    /// When the last frame of a period arrives, and when the frames occupy no link any more, counted from the offset.
+    /// When the last frame of a period arrives, and when the frames keep no link any more, counted from the offset.
     pub arrival: i128,
     pub span: i128,
 }
@@ -62,7 +62,7 @@ impl<'a> TimedNetwork<'a> {
         match timing.hop_on(stream, link) {
             Some(hop) if hop < timing.hops(stream) => {
                 let begin = frame.shift as i128 + timing.start(stream, hop) as i128;
-                let end = begin + timing.occupancy(stream, hop) as i128;
+                let end = begin + timing.separation(stream, hop) as i128;
                 Visit { begin, end }
             }
             _ => Visit::default(),

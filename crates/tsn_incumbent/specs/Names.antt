@@ -15,7 +15,7 @@ abbrev pub no_table : TableId
 no_table = record { words = 0; slots = 0; views_name = 0; atom = 0; block = 0; offset = 0; slot_names = [] }
 
 abbrev pub no_names : Names
-no_names = record { race = record { table = no_table; network = record { cycle = 0; procs = []; links = []; streams = [] }; tellers = 0 }; halves = no_table; limit = 0 }
+no_names = record { race = record { table = no_table; network = record { cycle = 0; slack = 0; procs = []; links = []; streams = [] }; tellers = 0 }; halves = no_table; limit = 0 }
 
 -- what a book of this search has, after that history
 abbrev pub progress_of : Names → List Settlement → Progress

@@ -11,7 +11,7 @@ abbrev pub opening : Network → ℕ → SeatState
 opening network tellers = record { timing = network; tellers = tellers; standings = fresh_from (no_flowspan network) 0 tellers }
 
 abbrev pub spent : SeatState
-spent = record { timing = record { cycle = 0; procs = []; links = []; streams = [] }; tellers = 0; standings = [] }
+spent = record { timing = record { cycle = 0; slack = 0; procs = []; links = []; streams = [] }; tellers = 0; standings = [] }
 
 abbrev pub knowing : SeatState → List Standing → SeatState
 knowing v standings = record { timing = v.timing; tellers = v.tellers; standings = standings }

@@ -6,7 +6,7 @@ use Rattle.std.proofs.Math.Nat.{eq-or-lt_of_le}
 use Rattle.std.proofs.lemmas.Bool.{false≢true, cases_lt}
 use Rattle.std.proofs.lemmas.Option.{same_Some}
 use Rattle.tsn_net.specs.declared.fault.Code.{Code}
-use Rattle.tsn_net.specs.declared.fault.Code.TheVariants.{NotToml, MissingKey, WrongKind, UnknownKey, Limit, DuplicateName, UnknownName, BadRate, DuplicateCable, BadRoute, NoCable, NoStream, Memory, BadPeriod}
+use Rattle.tsn_net.specs.declared.fault.Code.TheVariants.{NotToml, MissingKey, WrongKind, UnknownKey, Limit, DuplicateName, UnknownName, BadRate, DuplicateCable, BadRoute, NoCable, NoStream, Memory, BadPeriod, BadSlack}
 use Rattle.tsn_net.specs.declared.fault.Place.{Place}
 use Rattle.tsn_net.specs.declared.fault.Place.TheVariants.{Text, Top, Node, Cable, Stream}
 use Rattle.tsn_net.specs.declared.fault.NetFault.{NetFault}
@@ -172,7 +172,7 @@ least_some (c ∷ cs) d fault h =
 -- a code is that of a condition, by its place among the codes; behind the eleventh a number is left out
 record IsCondition (code : Code) : Type 0 where
   number : ℕ
-  within : number < 12
+  within : number < 13
   is : code_number code ≡ number + 2 + number / 11
   at : get_or conditions number NotToml ≡ code
 
@@ -191,8 +191,9 @@ code_cases BadRoute = inr (inr (record { number = 8; within = omega arith; is = 
 code_cases NoCable = inr (inr (record { number = 9; within = omega arith; is = refl; at = refl }))
 code_cases NoStream = inr (inr (record { number = 10; within = omega arith; is = refl; at = refl }))
 code_cases BadPeriod = inr (inr (record { number = 11; within = omega arith; is = refl; at = refl }))
+code_cases BadSlack = inr (inr (record { number = 12; within = omega arith; is = refl; at = refl }))
 
-number_in_order : (i : ℕ) → i < 12 → code_number (get_or conditions i NotToml) ≡ i + 2 + i / 11
+number_in_order : (i : ℕ) → i < 13 → code_number (get_or conditions i NotToml) ≡ i + 2 + i / 11
 number_in_order zero h = refl
 number_in_order (suc zero) h = refl
 number_in_order (suc (suc zero)) h = refl
@@ -205,13 +206,14 @@ number_in_order (suc (suc (suc (suc (suc (suc (suc (suc zero)))))))) h = refl
 number_in_order (suc (suc (suc (suc (suc (suc (suc (suc (suc zero))))))))) h = refl
 number_in_order (suc (suc (suc (suc (suc (suc (suc (suc (suc (suc zero)))))))))) h = refl
 number_in_order (suc (suc (suc (suc (suc (suc (suc (suc (suc (suc (suc zero))))))))))) h = refl
-number_in_order (suc (suc (suc (suc (suc (suc (suc (suc (suc (suc (suc (suc i)))))))))))) h = absurd (omega arith)
+number_in_order (suc (suc (suc (suc (suc (suc (suc (suc (suc (suc (suc (suc zero)))))))))))) h = refl
+number_in_order (suc (suc (suc (suc (suc (suc (suc (suc (suc (suc (suc (suc (suc i))))))))))))) h = absurd (omega arith)
 
 -- the codes by their numbers
 abbrev codes_in_order : List Code
 codes_in_order =
     NotToml ∷ MissingKey ∷ WrongKind ∷ UnknownKey ∷ Limit ∷ DuplicateName ∷ UnknownName ∷ BadRate ∷ DuplicateCable ∷ BadRoute ∷ NoCable ∷ NoStream
-    ∷ Memory ∷ BadPeriod ∷ []
+    ∷ Memory ∷ BadPeriod ∷ BadSlack ∷ []
 
 code_by_number : (code : Code) → get_or codes_in_order (code_number code - 1) NotToml ≡ code
 code_by_number NotToml = refl
@@ -228,6 +230,7 @@ code_by_number NoCable = refl
 code_by_number NoStream = refl
 code_by_number Memory = refl
 code_by_number BadPeriod = refl
+code_by_number BadSlack = refl
 
 same_code : (a b : Code) → code_number a ≡ code_number b → a ≡ b
 same_code a b same = sym (code_by_number a) ∙ ap (λ n. get_or codes_in_order (n - 1) NotToml) same ∙ code_by_number b

@@ -83,6 +83,11 @@ member_keys-view (e ∷ es) = ap (λ ks. string_bytes e.0 ∷ ks) (member_keys-v
 pub keys_in-view : (d : Data) (m : BTreeMap (String Global) Value) → Some (table_view m) ≡ as_table d → keys_in d ≡ map string_bytes (keys m)
 keys_in-view d m h = keys_in-table d (table_view m) h ∙ member_keys-view m.entries
 
+either_key : {K : Type 0} (a b : Bool) (j k : K) → is_some (cond a (Some j) (cond b (Some k) None)) ≡ (a || b)
+either_key true b j k = refl
+either_key false true j k = refl
+either_key false false j k = refl
+
 two_keys : {K : Type 0} (a b : Bool) (j k : K) → (is_some (cond a (Some j) None) || is_some (cond b (Some k) None)) ≡ (a || b)
 two_keys true b j k = refl
 two_keys false true j k = refl
@@ -109,6 +114,9 @@ stream_keys false false false false false false true h i j k l m n = refl
 stream_keys false false false false false false false h i j k l m n = refl
 
 -- a table breaks a limit where a name or a number at a key of it does
+pub top-breaks : (d : Data) → breaks_key_limit tables.Top d ≡ (not (is_in_range key.Cycle d) || not (is_in_range key.Slack d))
+top-breaks d = either_key (not (is_in_range key.Cycle d)) (not (is_in_range key.Slack d)) key.Cycle key.Slack
+
 pub node-breaks : (d : Data) → breaks_key_limit tables.Node d ≡ node_breaks_limit d
 node-breaks d = two_keys (not (is_name (text_at key.Name d))) (not (is_in_range key.Proc d)) key.Name key.Proc
 

@@ -98,6 +98,8 @@ module _ (d : Document) (p : Place) where
   same matter.NoStream _ codes is another = cc
   same (matter.BadPeriod n m) (matter.BadPeriod k l) codes is another = (cc, cc)
   same (matter.BadPeriod n m) _ codes is another = cc
+  same (matter.BadSlack n i a b) (matter.BadSlack m j e f) codes is another = (cc, cc, cc, cc)
+  same (matter.BadSlack n i a b) _ codes is another = cc
 
 pub first_reasons_are_one : FirstReasonsAreOne
 first_reasons_are_one d one other is another =

@@ -3,7 +3,7 @@ use Rattle.std.specs.Prelude.{ℕ, List, ◌++◌, codes, decimal}
 use Rattle.tsn_net.specs.declared.fault.Place.{Place}
 use Rattle.tsn_net.specs.declared.fault.Place.TheVariants.{Text, Top, Node, Cable, Stream}
 use Rattle.tsn_net.specs.declared.fault.Code.{Code}
-use Rattle.tsn_net.specs.declared.fault.Code.TheVariants.{NotToml, MissingKey, WrongKind, UnknownKey, Limit, DuplicateName, UnknownName, BadRate, DuplicateCable, BadRoute, NoCable, NoStream, Memory, BadPeriod}
+use Rattle.tsn_net.specs.declared.fault.Code.TheVariants.{NotToml, MissingKey, WrongKind, UnknownKey, Limit, DuplicateName, UnknownName, BadRate, DuplicateCable, BadRoute, NoCable, NoStream, Memory, BadPeriod, BadSlack}
 use Rattle.tsn_net.specs.declared.fault.NetFault.{NetFault}
 
 -- the codes count from 1
@@ -22,6 +22,7 @@ code_number NoCable = 11
 code_number NoStream = 12
 code_number Memory = 13
 code_number BadPeriod = 14
+code_number BadSlack = 15
 
 abbrev pub code_text : Code → List ℕ
 code_text code = codes "N" ++ decimal (code_number code)

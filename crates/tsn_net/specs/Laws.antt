@@ -85,6 +85,8 @@ TellSame (matter.NoBridge name) (matter.NoBridge other) = name.now ≡ other.now
 TellSame (matter.NoCable hop from to) (matter.NoCable other begin end) = (hop ≡ other) × (from.now ≡ begin.now) × (to.now ≡ end.now)
 TellSame matter.NoStream matter.NoStream = Unit {0}
 TellSame (matter.BadPeriod period cycle) (matter.BadPeriod other whole) = (period ≡ other) × (cycle ≡ whole)
+TellSame (matter.BadSlack slack hop from to) (matter.BadSlack told other begin end) =
+    (slack ≡ told) × (hop ≡ other) × (from.now ≡ begin.now) × (to.now ≡ end.now)
 TellSame _ _ = ⊥
 
 -- what is told of the first fault of a document is one thing alone: two such faults have one place, and tell the same of it

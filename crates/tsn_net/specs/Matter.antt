@@ -22,7 +22,7 @@ use Rattle.tsn_net.specs.declared.matter.End.{End}
 use Rattle.tsn_net.specs.declared.matter.End.TheVariants.{First, Last}
 use Rattle.tsn_net.specs.Schema.{name_of, required, known, keys_in, is_table, holds_at, has_kind, name_keys, number_keys, table_keys}
 use Rattle.tsn_net.specs.Document.{Document, value_at, table_at, integer_or, integer_at, number_at, number_or, text_at}
-use Rattle.tsn_net.specs.Conditions.{holds, first_place, fault_of, is_within, is_name, is_rate, route_of, frames_of, has_name, joins, repeats, runs_between_stations, is_joined, neighbours, names_station, names_bridge, inner}
+use Rattle.tsn_net.specs.Conditions.{holds, first_place, fault_of, is_within, is_name, is_rate, route_of, frames_of, has_name, joins, repeats, runs_between_stations, is_joined, neighbours, is_quick, followed, names_station, names_bridge, inner}
 
 -- the condition that it is of
 abbrev pub matter_code : Matter → Code
@@ -48,6 +48,7 @@ matter_code (matter.NoBridge name) = code.BadRoute
 matter_code (matter.NoCable hop from to) = code.NoCable
 matter_code matter.NoStream = code.NoStream
 matter_code (matter.BadPeriod period cycle) = code.BadPeriod
+matter_code (matter.BadSlack slack hop from to) = code.BadSlack
 
 -- the first key that a table has to have and hasn't
 abbrev pub absent_key : Table → Data → Option Key
@@ -71,6 +72,7 @@ least_at key.Frames = 1
 least_at _ = 0
 
 abbrev pub most_at : Key → ℕ
+most_at key.Slack = 1000000
 most_at key.Proc = 1000000
 most_at key.Prop = 1000000
 most_at key.Octets = 1522
@@ -186,6 +188,16 @@ IsGap cables route (matter.NoCable hop from to) =
     (first_gap cables route ≡ Some hop) × (from.now ≡ slice_index_or route hop []) × (to.now ≡ slice_index_or route (hop + 1) [])
 IsGap cables route _ = ⊥
 
+-- the first hop of a route of which, but for the last one, a frame of so many octets takes no longer than the slack
+abbrev pub first_quick : ℕ → ℕ → List Data → List Data → List (List ℕ) → Option ℕ
+first_quick slack octets nodes cables route = position (is_quick slack octets nodes cables) (followed route)
+
+abbrev pub IsQuick : ℕ → ℕ → List Data → List Data → List (List ℕ) → Matter → Type 0
+IsQuick slack octets nodes cables route (matter.BadSlack told hop from to) =
+    (told ≡ slack) × (first_quick slack octets nodes cables route ≡ Some hop) × (from.now ≡ slice_index_or route hop [])
+    × (to.now ≡ slice_index_or route (hop + 1) [])
+IsQuick slack octets nodes cables route _ = ⊥
+
 -- what a matter tells of a place is so; where more is the matter by one condition, it is the first
 abbrev pub IsMatter : Document → Place → Matter → Type 0
 IsMatter d p (matter.MissingKey k beside) =
@@ -218,6 +230,9 @@ IsMatter d p (matter.NoCable hop from to) = IsGap d.cables (route_of (value_at d
 IsMatter d p matter.NoStream = length d.streams ≡ 0
 IsMatter d p (matter.BadPeriod period cycle) =
     (cycle ≡ number_at key.Cycle d.top) × (period ≡ number_or cycle key.Period (value_at d p)) × ((cycle % period == 0) ≡ false)
+IsMatter d p (matter.BadSlack slack hop from to) =
+    let stream = value_at d p in
+    IsQuick (number_at key.Slack d.top) (number_at key.Octets stream) d.nodes d.cables (route_of stream) (matter.BadSlack slack hop from to)
 
 -- ---- what is found
 
@@ -237,6 +252,11 @@ FindsRoute nodes route found =
 abbrev pub FindsGap : List Data → List (List ℕ) → Option Matter → Type 0
 FindsGap cables route found =
     (is_some found ≡ not (is_joined cables route)) × IfSome found (λ m. (matter_code m ≡ code.NoCable) × IsGap cables route m)
+
+abbrev pub FindsQuick : ℕ → ℕ → List Data → List Data → List (List ℕ) → Option Matter → Type 0
+FindsQuick slack octets nodes cables route found =
+    (is_some found ≡ list_any (is_quick slack octets nodes cables) (followed route))
+    × IfSome found (λ m. (matter_code m ≡ code.BadSlack) × IsQuick slack octets nodes cables route m)
 
 -- the first place of these where the condition holds, with what is the matter there
 abbrev pub FindsAmong : Code → Document → List Place → Option Amiss → Type 0

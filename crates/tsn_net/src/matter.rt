@@ -58,6 +58,9 @@ pub enum Matter<'a> {
     NoStream,
     /// A period that doesn't divide the cycle, in nanoseconds.
     BadPeriod(u64, u64),
+    /// A slack, in nanoseconds, and the names of a route, at this index and behind it, from one of which to the other a frame
+    /// takes no longer than that.
+    BadSlack(u64, usize, &'a str, &'a str),
 }
 
 impl Matter<'_> {
@@ -86,6 +89,7 @@ impl Matter<'_> {
             Matter::NoCable(..) => Code::NoCable,
             Matter::NoStream => Code::NoStream,
             Matter::BadPeriod(..) => Code::BadPeriod,
+            Matter::BadSlack(..) => Code::BadSlack,
         }
     }
 }

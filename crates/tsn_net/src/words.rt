@@ -1,11 +1,14 @@
 //! What is the matter with a network file, in words. Of the words nothing is claimed but what they are made of.
-use crate::conditions::{Amiss, is_name};
+use crate::conditions::Amiss;
 use crate::document::Document;
 use crate::fault::Place;
 use crate::matter::{End, Matter};
 use crate::schema::Key;
+use crate::tables::is_name;
 use std::alloc::Global;
-use tsn_text::{TextBuilder, push_name};
+use std::fmt;
+use std::fmt::Write;
+use tsn_text::Shown;
 
 /// The names of a place: that of a node or a stream, or those of the nodes that a cable joins.
 #[derive(Clone, Copy)]
@@ -53,110 +56,117 @@ fn both<'a>(a: Option<&'a str>, b: Option<&'a str>) -> Option<(&'a str, &'a str)
     }
 }
 
-/// Writes where a fault is, and what is the matter there.
-pub(crate) fn push_amiss(text: &mut TextBuilder, names: Names<'_>, amiss: Amiss<'_>) {
+/// Where a fault is and what is the matter there; None where there is no memory for the words.
+pub(crate) fn words_of(alloc: Global, names: Names<'_>, amiss: Amiss<'_>) -> Option<String> {
     let Amiss { place, matter } = amiss;
-    push_place(text, names, place);
-    push_matter(text, matter, place)
+    format!(in alloc; "{}{}", At(names, place), What(matter, place)).ok()
 }
 
-// Writes the place of a fault: `node S: `, `cable 2, S to C: `, `stream one: `; nothing for the whole file.
-fn push_place(text: &mut TextBuilder, names: Names<'_>, place: Place) {
-    match place {
-        Place::Node(node) => push_named(text, "node", node, names),
-        Place::Cable(cable) => push_cable(text, cable, names),
-        Place::Stream(stream) => push_named(text, "stream", stream, names),
-        Place::Text | Place::Top => {}
+/// What the reader of TOML says, which tells the line and the column first, and ends each of its parts with a line feed.
+pub(crate) fn not_toml_words(alloc: Global, error: toml::de::Error) -> Option<String> {
+    let told = format!(in alloc; "{error}").ok()?;
+    let mut text = format!(in alloc; "not TOML").ok()?;
+    for part in told.as_str().lines() {
+        let part = part.strip_prefix("TOML parse error at ").unwrap_or(part);
+        write!(text, ": {part}").ok()?;
+    }
+    Some(text)
+}
+
+// The place of a fault: `node S: `, `cable 2, S to C: `, `stream one: `; nothing for the whole file.
+#[derive(Clone, Copy)]
+struct At<'a>(Names<'a>, Place);
+
+impl fmt::Display for At<'_> {
+    fn fmt<W: fmt::Write>(&self, f: &mut fmt::Formatter<W>) -> fmt::Result {
+        let At(names, place) = *self;
+        match place {
+            Place::Node(node) => write!(f, "node {}: ", Called(names.name, node)),
+            Place::Cable(cable) => write!(f, "cable {cable}{}: ", Between(names.ends)),
+            Place::Stream(stream) => write!(f, "stream {}: ", Called(names.name, stream)),
+            Place::Text | Place::Top => Ok(()),
+        }
     }
 }
 
-// Writes a node or a stream by its name, or by its number where it has none.
-fn push_named(text: &mut TextBuilder, kind: &str, number: usize, names: Names<'_>) {
-    text.push_str(kind);
-    text.push(' ');
-    match names.name {
-        Some(name) if is_name(name) => text.push_str(name),
-        _ => text.push_count(number),
+// A node or a stream by its name, or by its number where it has none.
+#[derive(Clone, Copy)]
+struct Called<'a>(Option<&'a str>, usize);
+
+impl fmt::Display for Called<'_> {
+    fn fmt<W: fmt::Write>(&self, f: &mut fmt::Formatter<W>) -> fmt::Result {
+        match self.0 {
+            Some(name) if is_name(name) => write!(f, "{name}"),
+            Some(_) | None => write!(f, "{}", self.1),
+        }
     }
-    text.push_str(": ")
 }
 
-// Writes a cable by its number, and the nodes that it joins, where they are named.
-fn push_cable(text: &mut TextBuilder, number: usize, names: Names<'_>) {
-    text.push_str("cable ");
-    text.push_count(number);
-    if let Some((from, to)) = names.ends {
-        text.push_str(", ");
-        push_name(text, from);
-        text.push_str(" to ");
-        push_name(text, to);
+// The nodes that a cable joins, where they are named.
+#[derive(Clone, Copy)]
+struct Between<'a>(Option<(&'a str, &'a str)>);
+
+impl fmt::Display for Between<'_> {
+    fn fmt<W: fmt::Write>(&self, f: &mut fmt::Formatter<W>) -> fmt::Result {
+        match self.0 {
+            Some((from, to)) => write!(f, ", {} to {}", Shown(from), Shown(to)),
+            None => Ok(()),
+        }
     }
-    text.push_str(": ")
 }
 
-// Writes what is the matter at a place.
-fn push_matter(text: &mut TextBuilder, matter: Matter<'_>, place: Place) {
-    match matter {
-        Matter::MissingKey(key, beside) => push_missing_key(text, key, beside, place),
-        Matter::NoTable => text.push_str("it has to be a table"),
-        Matter::WrongKind(key) => {
-            text.push_str(key.name());
-            text.push_str(" has to be ");
-            text.push_str(kind_wanted(key))
+const MOST_FRAMES: &str = ", and may send at most 1024";
+
+const NAMES: &str = "the number of names in route";
+
+// What is the matter at a place.
+#[derive(Clone, Copy)]
+struct What<'a>(Matter<'a>, Place);
+
+impl fmt::Display for What<'_> {
+    fn fmt<W: fmt::Write>(&self, f: &mut fmt::Formatter<W>) -> fmt::Result {
+        let What(matter, place) = *self;
+        match matter {
+            Matter::MissingKey(key, beside) => {
+                write!(f, "the key {key} is missing{}", Beside(beside, place))
+            }
+            Matter::NoTable => write!(f, "it has to be a table"),
+            Matter::WrongKind(key) => write!(f, "{key} has to be {}", kind_wanted(key)),
+            Matter::UnknownKey(name) => write!(f, "{}", Unknown(name, place)),
+            Matter::OutOfRange(key, number) => write!(f, "{key} is {number}{}", Limits(key)),
+            Matter::TooMany(key, count) => write!(f, "{key} has {count} elements{}", Most(key)),
+            Matter::TooManyFrames(count) => {
+                write!(f, "the streams send {count} frames in a cycle{MOST_FRAMES}")
+            }
+            Matter::NoName(key, text) => write!(f, "{key} is {}", NoName(text)),
+            Matter::NoRouteName(text) => write!(f, "a name of route is {}", NoName(text)),
+            Matter::LongRoute(count) => write!(f, "route has {count} names{}", Most(Key::Route)),
+            Matter::TakenName(number) => write!(f, "{} has this name already", Like(place, number)),
+            Matter::NoNode(name) => write!(f, "there is no node {}", Shown(name)),
+            Matter::BadRate(mbps) => write!(f, "mbps is {mbps}, and has to be 10, 100 or 1000"),
+            Matter::Loop => write!(f, "it joins a node to itself"),
+            Matter::TakenCable(number) => write!(f, "cable {number} joins these nodes already"),
+            Matter::ShortRoute(count) => write!(f, "{NAMES} is {count}, and has to be 2 to 17"),
+            Matter::Twice(name, _, _) => write!(f, "its route names {} twice", Shown(name)),
+            Matter::NoStation(name, end) => write!(f, "its route {}", NoStation(name, end)),
+            Matter::NoBridge(name) => {
+                write!(f, "its route passes {}, which is no bridge", Shown(name))
+            }
+            Matter::NoCable(_, from, to) => {
+                write!(f, "no cable joins {} and {}", Shown(from), Shown(to))
+            }
+            Matter::NoStream => write!(f, "there is no stream"),
+            Matter::BadPeriod(period, cycle) => {
+                write!(f, "period {period} doesn't divide the cycle {cycle}")
+            }
+            Matter::BadSlack(slack, _, from, to) => write!(f, "{}", TooQuick(slack, from, to)),
         }
-        Matter::UnknownKey(name) => push_unknown_key(text, name, place),
-        Matter::OutOfRange(key, number) => push_out_of_range(text, key, number),
-        Matter::TooMany(key, count) => push_too_many(text, key.name(), count, " elements", key),
-        Matter::TooManyFrames(count) => {
-            text.push_str("the streams send ");
-            text.push_number(count);
-            text.push_str(" frames in a cycle, and may send at most 1024")
-        }
-        Matter::NoName(key, name) => push_no_name(text, key.name(), name),
-        Matter::NoRouteName(name) => push_no_name(text, "a name of route", name),
-        Matter::LongRoute(count) => push_too_many(text, "route", count, " names", Key::Route),
-        Matter::TakenName(number) => push_taken_name(text, number, place),
-        Matter::NoNode(name) => {
-            text.push_str("there is no node ");
-            push_name(text, name)
-        }
-        Matter::BadRate(mbps) => {
-            text.push_str("mbps is ");
-            text.push_signed(mbps);
-            text.push_str(", and has to be 10, 100 or 1000")
-        }
-        Matter::Loop => text.push_str("it joins a node to itself"),
-        Matter::TakenCable(number) => {
-            text.push_str("cable ");
-            text.push_count(number);
-            text.push_str(" joins these nodes already")
-        }
-        Matter::ShortRoute(count) => {
-            text.push_str("the number of names in route is ");
-            text.push_count(count);
-            text.push_str(", and has to be 2 to 17")
-        }
-        Matter::Twice(name, _, _) => push_route(text, "names ", name, " twice"),
-        Matter::NoStation(name, End::First) => {
-            push_route(text, "begins at ", name, ", which is no station")
-        }
-        Matter::NoStation(name, End::Last) => {
-            push_route(text, "ends at ", name, ", which is no station")
-        }
-        Matter::NoBridge(name) => push_route(text, "passes ", name, ", which is no bridge"),
-        Matter::NoCable(_, from, to) => {
-            text.push_str("no cable joins ");
-            push_name(text, from);
-            text.push_str(" and ");
-            push_name(text, to)
-        }
-        Matter::NoStream => text.push_str("there is no stream"),
-        Matter::BadPeriod(period, cycle) => {
-            text.push_str("period ");
-            text.push_number(period);
-            text.push_str(" doesn't divide the cycle ");
-            text.push_number(cycle)
-        }
+    }
+}
+
+impl fmt::Display for Key {
+    fn fmt<W: fmt::Write>(&self, f: &mut fmt::Formatter<W>) -> fmt::Result {
+        f.write_str(self.name())
     }
 }
 
@@ -167,100 +177,118 @@ fn kind_wanted(key: Key) -> &'static str {
         Key::Name | Key::A | Key::B => "a string",
         Key::Kind => "\"station\" or \"bridge\"",
         Key::Route => "an array of strings",
-        _ => "an integer",
+        Key::Cycle | Key::Slack => "an integer",
+        Key::Proc | Key::Mbps | Key::Prop => "an integer",
+        Key::Octets | Key::Release | Key::Latest => "an integer",
+        Key::Period | Key::Frames | Key::Offset => "an integer",
     }
 }
 
-// Writes which key is missing, and beside it the one that isn't known, if there is one: that may have been meant.
-fn push_missing_key(text: &mut TextBuilder, key: Key, beside: Option<&str>, place: Place) {
-    text.push_str("the key ");
-    text.push_str(key.name());
-    text.push_str(" is missing");
-    match beside {
-        Some(name) => {
-            text.push_str(", and ");
-            push_unknown_key(text, name, place)
-        }
-        None => {}
-    }
-}
+// The table of this number among those like a place.
+#[derive(Clone, Copy)]
+struct Like(Place, usize);
 
-// Writes which key isn't known, or why a table can't have it.
-fn push_unknown_key(text: &mut TextBuilder, name: &str, place: Place) {
-    match (name, place) {
-        ("proc", Place::Node(_)) => text.push_str("a station has no proc"),
-        ("offset", Place::Stream(_)) => {
-            text.push_str("a stream with an offset has no release and no latest")
-        }
-        _ => {
-            text.push_str("the key ");
-            push_name(text, name);
-            text.push_str(" isn't known")
+impl fmt::Display for Like {
+    fn fmt<W: fmt::Write>(&self, f: &mut fmt::Formatter<W>) -> fmt::Result {
+        let number = self.1;
+        match self.0 {
+            Place::Node(_) => write!(f, "node {number}"),
+            Place::Text | Place::Top | Place::Cable(_) | Place::Stream(_) => {
+                write!(f, "stream {number}")
+            }
         }
     }
 }
 
-fn push_out_of_range(text: &mut TextBuilder, key: Key, number: i64) {
-    text.push_str(key.name());
-    text.push_str(" is ");
-    text.push_signed(number);
-    text.push_str(", and has to be ");
-    text.push_number(key.least());
-    text.push_str(" to ");
-    text.push_number(key.most())
-}
+// At which end of a route a node stands that is no station.
+#[derive(Clone, Copy)]
+struct NoStation<'a>(&'a str, End);
 
-// Writes how many there are of something, and how many there may be.
-fn push_too_many(text: &mut TextBuilder, what: &str, count: usize, parts: &str, key: Key) {
-    text.push_str(what);
-    text.push_str(" has ");
-    text.push_count(count);
-    text.push_str(parts);
-    text.push_str(", and may have at most ");
-    text.push_number(key.most())
-}
-
-// Writes what a name has to be, where the text is none.
-fn push_no_name(text: &mut TextBuilder, what: &str, name: &str) {
-    text.push_str(what);
-    text.push_str(" is ");
-    push_name(text, name);
-    text.push_str(", and a name has 1 to 32 of the characters A to Z, a to z, 0 to 9, _ and -")
-}
-
-// Writes which node or stream has the name already.
-fn push_taken_name(text: &mut TextBuilder, number: usize, place: Place) {
-    text.push_str(match place {
-        Place::Node(_) => "node ",
-        _ => "stream ",
-    });
-    text.push_count(number);
-    text.push_str(" has this name already")
-}
-
-// Writes what a route does with a node.
-fn push_route(text: &mut TextBuilder, does: &str, name: &str, behind: &str) {
-    text.push_str("its route ");
-    text.push_str(does);
-    push_name(text, name);
-    text.push_str(behind)
-}
-
-/// Where a fault is and what is the matter there; None where there is no memory for the words.
-pub(crate) fn words_of(alloc: Global, names: Names<'_>, amiss: Amiss<'_>) -> Option<String> {
-    let mut text = TextBuilder::new(alloc);
-    push_amiss(&mut text, names, amiss);
-    text.finish().ok()
-}
-
-/// What the reader of TOML says, which tells the line and the column first, and ends each of its parts with a line feed.
-pub(crate) fn not_toml_words(alloc: Global, error: toml::de::Error) -> Option<String> {
-    let told = format!(in alloc; "{error}").ok()?;
-    let mut text = TextBuilder::new(alloc);
-    text.push_str("not TOML");
-    for part in told.as_str().lines() {
-        text.push_str(": ");
-        text.push_str(part.strip_prefix("TOML parse error at ").unwrap_or(part));
+impl fmt::Display for NoStation<'_> {
+    fn fmt<W: fmt::Write>(&self, f: &mut fmt::Formatter<W>) -> fmt::Result {
+        let name = Shown(self.0);
+        match self.1 {
+            End::First => write!(f, "begins at {name}, which is no station"),
+            End::Last => write!(f, "ends at {name}, which is no station"),
+        }
     }
-    text.finish().ok()
+}
+
+// The nodes between which frames take no longer than the slack, which is told first.
+#[derive(Clone, Copy)]
+struct TooQuick<'a>(u64, &'a str, &'a str);
+
+impl fmt::Display for TooQuick<'_> {
+    fn fmt<W: fmt::Write>(&self, f: &mut fmt::Formatter<W>) -> fmt::Result {
+        let TooQuick(slack, from, to) = *self;
+        let from = Shown(from);
+        let to = Shown(to);
+        write!(
+            f,
+            "slack is {slack}, and has to be less than its frames take from {from} until {to} may send them on"
+        )
+    }
+}
+
+// Beside a key that is missing the one that isn't known, if there is one: that may have been meant.
+#[derive(Clone, Copy)]
+struct Beside<'a>(Option<&'a str>, Place);
+
+impl fmt::Display for Beside<'_> {
+    fn fmt<W: fmt::Write>(&self, f: &mut fmt::Formatter<W>) -> fmt::Result {
+        match self.0 {
+            Some(name) => write!(f, ", and {}", Unknown(name, self.1)),
+            None => Ok(()),
+        }
+    }
+}
+
+// Which key isn't known, or why a table can't have it.
+#[derive(Clone, Copy)]
+struct Unknown<'a>(&'a str, Place);
+
+impl fmt::Display for Unknown<'_> {
+    fn fmt<W: fmt::Write>(&self, f: &mut fmt::Formatter<W>) -> fmt::Result {
+        match (self.0, self.1) {
+            ("proc", Place::Node(_)) => write!(f, "a station has no proc"),
+            ("offset", Place::Stream(_)) => {
+                write!(f, "a stream with an offset has no release and no latest")
+            }
+            (name, _) => write!(f, "the key {} isn't known", Shown(name)),
+        }
+    }
+}
+
+// What a number at a key has to be.
+#[derive(Clone, Copy)]
+struct Limits(Key);
+
+impl fmt::Display for Limits {
+    fn fmt<W: fmt::Write>(&self, f: &mut fmt::Formatter<W>) -> fmt::Result {
+        write!(f, ", and has to be {} to {}", self.0.least(), self.0.most())
+    }
+}
+
+// How many there may be of what stands at a key.
+#[derive(Clone, Copy)]
+struct Most(Key);
+
+impl fmt::Display for Most {
+    fn fmt<W: fmt::Write>(&self, f: &mut fmt::Formatter<W>) -> fmt::Result {
+        write!(f, ", and may have at most {}", self.0.most())
+    }
+}
+
+// A text that is no name, and what a name has to be.
+#[derive(Clone, Copy)]
+struct NoName<'a>(&'a str);
+
+impl fmt::Display for NoName<'_> {
+    fn fmt<W: fmt::Write>(&self, f: &mut fmt::Formatter<W>) -> fmt::Result {
+        let text = Shown(self.0);
+        write!(
+            f,
+            "{text}, and a name has 1 to 32 of the characters A to Z, a to z, 0 to 9, _ and -"
+        )
+    }
 }

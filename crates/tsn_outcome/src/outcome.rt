@@ -221,31 +221,25 @@ impl fmt::Display for Outcome {
     ghost output = { λ outcome. Some (said outcome) };
 
     fn fmt<W: fmt::Write>(&self, f: &mut fmt::Formatter<W>) -> fmt::Result {
+        let place = Place(" ", *self);
         match *self {
             Outcome::Taken | Outcome::Failed => Ok(()),
             Outcome::Valid { flowspan } => write!(f, "valid flowspan {flowspan}"),
             Outcome::NotValid(violation) => {
                 let number = violation_number(violation);
-                write!(f, "not valid V{number}{}", Place(" ", *self))
+                write!(f, "not valid V{number}{place}")
             }
-            Outcome::Optimal { flowspan, settled } => write!(
-                f,
-                "optimal {flowspan} settled {settled}"
-            ),
+            Outcome::Optimal { flowspan, settled } => {
+                write!(f, "optimal {flowspan} settled {settled}")
+            }
             Outcome::NoSchedule { settled } => write!(f, "no schedule settled {settled}"),
             Outcome::Stopped { known, settled } => {
-                write!(
-                    f,
-                    "stopped {} settled {settled}",
-                    SpanOr("none", known.best)
-                )
+                let best = SpanOr("none", known.best);
+                write!(f, "stopped {best} settled {settled}")
             }
             Outcome::Proved { stated, settled } => {
-                write!(
-                    f,
-                    "proved {} settled {settled}",
-                    SpanOr("no schedule", stated)
-                )
+                let stated = SpanOr("no schedule", stated);
+                write!(f, "proved {stated} settled {settled}")
             }
             Outcome::Undercut {
                 stated,
@@ -260,13 +254,9 @@ impl fmt::Display for Outcome {
             Outcome::AcceptedNone => write!(f, "accepted no schedule"),
             Outcome::RefusedNetwork(fault) => write!(f, "refused {fault}"),
             Outcome::RefusedFile(kind, fault) => write!(f, "refused {kind} C{}", fault.number()),
-            Outcome::RefusedPlan(fault) => {
-                let number = fault.number();
-                write!(f, "plan refused K{number}{}", Place(" ", *self))
-            }
+            Outcome::RefusedPlan(fault) => { write!(f, "plan refused K{}{place}", fault.number()) }
             Outcome::RefusedCert(fault) => {
-                let number = fault.number();
-                write!(f, "certificate refused K{number}{}", Place(" ", *self))
+                write!(f, "certificate refused K{}{place}", fault.number())
             }
             Outcome::TooLong => write!(f, "too long"),
             Outcome::NoMemory => write!(f, "no memory"),

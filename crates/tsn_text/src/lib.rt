@@ -9,5 +9,5 @@ mod text;
 
 pub use field::write_quoted;
 pub use list::ListBuilder;
-pub use shown::{line_of, push_line, push_name};
+pub use shown::{Shown, line_of, push_line};
 pub use text::TextBuilder;

@@ -2,6 +2,7 @@
 
 use crate::text::TextBuilder;
 use std::alloc::Global;
+use std::fmt;
 
 // The most characters that are shown of a text that is no name.
 const MOST_SHOWN: usize = 40;
@@ -17,40 +18,40 @@ pub fn line_of(alloc: Global, file: &str) -> TextBuilder {
 /// Writes a text, with marks for what doesn't show or would end the line.
 pub fn push_line(text: &mut TextBuilder, words: &str) {
     for character in words.chars() {
-        push_shown(text, character);
+        text.push(visible(character));
     }
 }
 
-/// Writes a name; a text that is none is quoted, and its end left out where it is long.
-pub fn push_name(text: &mut TextBuilder, name: &str) {
-    if is_name(name) {
-        text.push_str(name)
-    } else {
-        push_quoted(text, name)
-    }
-}
+/// A name; a text that is none is quoted, and its end left out where it is long.
+#[derive(Clone, Copy)]
+pub struct Shown<'a>(pub &'a str);
 
-fn push_quoted(text: &mut TextBuilder, words: &str) {
-    text.push('"');
-    let mut room = MOST_SHOWN;
-    for character in words.chars() {
-        if room == 0 {
-            text.push_str("..");
-            break;
+impl fmt::Display for Shown<'_> {
+    fn fmt<W: fmt::Write>(&self, f: &mut fmt::Formatter<W>) -> fmt::Result {
+        if is_name(self.0) {
+            return f.write_str(self.0);
         }
-        room -= 1;
-        push_shown(text, character);
+        f.write_char('"')?;
+        let mut room = MOST_SHOWN;
+        for character in self.0.chars() {
+            if room == 0 {
+                f.write_str("..")?;
+                break;
+            }
+            room -= 1;
+            f.write_char(visible(character))?;
+        }
+        f.write_char('"')
     }
-    text.push('"')
 }
 
-// Writes a character, or a mark for one that doesn't show.
-fn push_shown(text: &mut TextBuilder, character: char) {
+// The character, or a mark for one that doesn't show.
+fn visible(character: char) -> char {
     match character {
-        '\0'..='\x1f' | '\x7f'..='\u{9f}' => text.push('?'),
-        '\u{200b}'..='\u{200f}' | '\u{2028}'..='\u{202e}' => text.push('?'),
-        '\u{2060}'..='\u{206f}' | '\u{feff}' => text.push('?'),
-        _ => text.push(character),
+        '\0'..='\x1f' | '\x7f'..='\u{9f}' => '?',
+        '\u{200b}'..='\u{200f}' | '\u{2028}'..='\u{202e}' => '?',
+        '\u{2060}'..='\u{206f}' | '\u{feff}' => '?',
+        _ => character,
     }
 }
 

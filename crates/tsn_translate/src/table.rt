@@ -125,7 +125,7 @@ fn first_on(timing: &Timing, stream: usize, link: usize) -> Option<Visit> {
         stream,
         shift: 0,
         start: signed(timing.start(stream, hop)),
-        work: signed(timing.occupancy(stream, hop)),
+        work: signed(timing.separation(stream, hop)),
     })
 }
 

@@ -9,7 +9,7 @@ use tsn_cert::limits::MAX_LAG;
 use tsn_cert::plan::MAX_TIME;
 use tsn_cert::{Excess, Misfit, Part, Refused};
 use tsn_model::NoMemory;
-use tsn_text::{TextBuilder, line_of, push_name};
+use tsn_text::{Shown, line_of};
 
 // What a number has to be before its limit is looked at.
 const NUMBER: &str = "a whole number below 2^64, in digits alone";
@@ -19,7 +19,7 @@ pub fn file_line(alloc: Global, name: &str, refused: &Refused) -> Reason {
     let mut text = line_of(alloc, name).finish()?;
     let told = match refused {
         Refused::NotJson(error) => write!(text, "{error}"),
-        Refused::WrongShape(misfit) => push_misfit(alloc, &mut text, misfit),
+        Refused::WrongShape(misfit) => push_misfit(&mut text, misfit),
         Refused::NumberTooLarge(excess) => push_excess(&mut text, *excess),
         Refused::Memory => return Err(NoMemory),
     };
@@ -27,16 +27,13 @@ pub fn file_line(alloc: Global, name: &str, refused: &Refused) -> Reason {
     Ok(Some(text))
 }
 
-fn push_misfit(alloc: Global, text: &mut String, misfit: &Misfit) -> Written {
+fn push_misfit(text: &mut String, misfit: &Misfit) -> Written {
     match misfit {
         Misfit::NoObject => text.push_str("it has to be an object"),
         Misfit::OtherFormat => text.push_str("format has to be 1, 2 or 3"),
         Misfit::Missing(key) => write!(text, "the key {} is missing", key.name()),
         Misfit::Unknown(key) => {
-            let mut shown = TextBuilder::new(alloc);
-            push_name(&mut shown, key.as_str());
-            let shown = shown.finish()?;
-            write!(text, "the key {shown} has no place in it")
+            write!(text, "the key {} has no place in it", Shown(key.as_str()))
         }
         Misfit::OneNull => text.push_str("flowspan and offsets have to be null both or neither"),
         Misfit::OtherGoal => text.push_str("goal has to be \"first\", \"least\" or \"none\""),

@@ -47,7 +47,7 @@ pub fn offsets_line(
 pub fn push_violation(text: &mut String, schedule: Schedule<'_>, violation: Violation) -> Written {
     match violation {
         Violation::WrongCount => push_count(text, schedule),
-        Violation::Overlap(triple) => push_overlap(text, schedule.problem, triple),
+        Violation::Overlap(triple) => push_overlap(text, schedule, triple),
         Violation::PastCycle(stream) | Violation::Early(stream) | Violation::TooLate(stream) => {
             write!(text, "{}", StreamName(schedule.problem, stream))?;
             if stream >= schedule.timing.streams() {
@@ -76,15 +76,49 @@ pub fn past_end(period: u64, cycle: u64) -> &'static str {
     }
 }
 
-fn push_overlap(text: &mut String, problem: &Problem, triple: Triple) -> Written {
+fn push_overlap(text: &mut String, schedule: Schedule<'_>, triple: Triple) -> Written {
+    let problem = schedule.problem;
     let left = StreamName(problem, triple.left);
     let right = StreamName(problem, triple.right);
     let link = LinkName(problem, triple.link);
-    write!(
-        text,
-        "{left} and {right}{} overlap on {link}",
-        Later(triple.lag)
-    )
+    let later = Later(triple.lag);
+    match apart(schedule, triple) {
+        Some(gap) => write!(
+            text,
+            "{left} and {right}{later} start {gap} ns apart on {link}, and have to be more than the slack of {} ns apart",
+            schedule.timing.slack()
+        ),
+        None => write!(text, "{left} and {right}{later} overlap on {link}"),
+    }
+}
+
+// How far apart the frames of a triple start on its link, if they don't occupy it at a common instant.
+fn apart(schedule: Schedule<'_>, triple: Triple) -> Option<i128> {
+    let (left, left_end) = stay(schedule, triple.left, triple.link)?;
+    let (right, right_end) = stay(schedule, triple.right, triple.link)?;
+    let lag = triple.lag as i128;
+    let gap = right.wrapping_add(lag).wrapping_sub(left);
+    if left_end <= right.wrapping_add(lag) {
+        Some(gap)
+    } else if right_end.wrapping_add(lag) <= left {
+        Some(gap.wrapping_neg())
+    } else {
+        None
+    }
+}
+
+// When a stream's first frame starts on a link, and when it no longer occupies it.
+fn stay(schedule: Schedule<'_>, stream: usize, link: usize) -> Option<(i128, i128)> {
+    let timing = schedule.timing;
+    if stream >= timing.streams() {
+        return None;
+    }
+    let hop = timing.hop_on(stream, link)?;
+    if hop >= timing.hops(stream) {
+        return None;
+    }
+    let begin = schedule.offset(stream) as i128 + timing.start(stream, hop) as i128;
+    Some((begin, begin + timing.occupancy(stream, hop) as i128))
 }
 
 // Writes which of its times a stream's offset doesn't keep; where one offset alone is within its window, that it has to be that.

@@ -7,26 +7,20 @@ use tsn_check::Wrong;
 use tsn_model::{Decision, Frame, Side};
 use tsn_timing::Problem;
 
+const CROSSED: &str = "behind the moves before it nothing is in question any more";
+
+const OF_OTHERS: &str = "its orders aren't of the same streams, the same one first";
+
 /// Writes what is wrong.
 pub fn push_wrong(text: &mut String, problem: &Problem, wrong: Wrong) -> Written {
     match wrong {
-        Wrong::Crossed => text.push_str(
-            "behind the moves before it nothing is in question any more",
-        ),
+        Wrong::Crossed => text.push_str(CROSSED),
         Wrong::NoneChosen => text.push_str("it is bounded by none of the others"),
         Wrong::NotClosed => text.push_str("its orders don't lead back to where they begin"),
-        Wrong::OfOthers => text.push_str(
-            "its orders aren't of the same streams, the same one first",
-        ),
+        Wrong::OfOthers => text.push_str(OF_OTHERS),
         Wrong::NoStream(stream) => write!(text, "there is no stream {stream}"),
-        Wrong::NoClause { number, shown } => write!(
-            text,
-            "clause {number} wasn't shown before: there are {shown}"
-        ),
-        Wrong::Left { number, left } => write!(
-            text,
-            "clause {number} has {left} facts left, and may have at most 1"
-        ),
+        Wrong::NoClause { number, shown } => push_no_clause(text, number, shown),
+        Wrong::Left { number, left } => push_left(text, number, left),
         Wrong::Weight(sum) => write!(
             text,
             "the weights of its orders add up to {sum}, and have to be above 0"
@@ -59,6 +53,22 @@ pub fn push_wrong(text: &mut String, problem: &Problem, wrong: Wrong) -> Written
             of_others,
         } => push_room(text, LinkName(problem, link), bound, end, of_others),
     }
+}
+
+// Writes that a clause wasn't shown.
+fn push_no_clause(text: &mut String, number: usize, shown: usize) -> Written {
+    write!(
+        text,
+        "clause {number} wasn't shown before: there are {shown}"
+    )
+}
+
+// Writes that a clause leaves more than one fact.
+fn push_left(text: &mut String, number: usize, left: usize) -> Written {
+    write!(
+        text,
+        "clause {number} has {left} facts left, and may have at most 1"
+    )
 }
 
 // Writes that the stream of a frame sends no such frame.

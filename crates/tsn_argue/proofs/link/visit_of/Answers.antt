@@ -1,5 +1,5 @@
 use Rattle.std.proofs.Common.{◌∙◌, sym, ap, arith}
-use Rattle.tsn_model.specs.Timing.{occupancy}
+use Rattle.tsn_model.specs.Timing.{separation}
 use Rattle.tsn_model.specs.Certificate.{begin_on, end_on}
 use Rattle.tsn_model.proofs.Routes.{hop_on_found, hop_on_link, UsesLink-counted}
 use Rattle.tsn_check.proofs.Shifts.{shift_short}
@@ -14,11 +14,11 @@ start-requires-clause-stream c = UsesLink-counted c.args.timing.now c.args.frame
 pub start-requires-clause-hop : goal.start-requires-clause-hop
 start-requires-clause-hop c = (hop_on_found c.args.timing.now c.args.frame.stream c.args.link c.in-Some.hop (sym c.in-Some.ensures)).1
 
-pub occupancy-work-requires-clause-stream : goal.occupancy-work-requires-clause-stream
-occupancy-work-requires-clause-stream c = UsesLink-counted c.args.timing.now c.args.frame.stream c.args.link c.requires.uses
+pub separation-work-requires-clause-stream : goal.separation-work-requires-clause-stream
+separation-work-requires-clause-stream c = UsesLink-counted c.args.timing.now c.args.frame.stream c.args.link c.requires.uses
 
-pub occupancy-work-requires-clause-hop : goal.occupancy-work-requires-clause-hop
-occupancy-work-requires-clause-hop c = (hop_on_found c.args.timing.now c.args.frame.stream c.args.link c.in-Some.hop (sym c.in-Some.ensures)).1
+pub separation-work-requires-clause-hop : goal.separation-work-requires-clause-hop
+separation-work-requires-clause-hop c = (hop_on_found c.args.timing.now c.args.frame.stream c.args.link c.in-Some.hop (sym c.in-Some.ensures)).1
 
 pub overflow_add-begin : goal.overflow_add-begin
 overflow_add-begin c =
@@ -34,16 +34,16 @@ returns-clause-begin c =
 
 pub returns-clause-work : goal.returns-clause-work
 returns-clause-work c =
-    c.occupancy-work.ensures.value
-    ∙ ap (occupancy c.args.timing.now c.args.frame.stream)
+    c.separation-work.ensures.value
+    ∙ ap (separation c.args.timing.now c.args.frame.stream)
     (hop_on_link c.args.timing.now c.args.frame.stream c.args.link c.in-Some.hop (sym c.in-Some.ensures))
 
 pub returns-clause-end : goal.returns-clause-end
 unfolding begin_on end_on
 returns-clause-end c =
     let starts = (hop_on_found c.args.timing.now c.args.frame.stream c.args.link c.in-Some.hop (sym c.in-Some.ensures)).2 in
-    let works = c.occupancy-work.ensures.value
-    ∙ ap (occupancy c.args.timing.now c.args.frame.stream)
+    let works = c.separation-work.ensures.value
+    ∙ ap (separation c.args.timing.now c.args.frame.stream)
     (hop_on_link c.args.timing.now c.args.frame.stream c.args.link c.in-Some.hop (sym c.in-Some.ensures)) in
     omega (arith, c.start.ensures.value, starts, works)
 

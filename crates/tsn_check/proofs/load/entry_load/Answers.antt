@@ -1,7 +1,7 @@
 use Rattle.std.proofs.Common.{◌≡◌, ◌+◌, ◌∙◌, sym, ap, inl, arith}
 use Rattle.std.proofs.lemmas.Int.{ints}
 use Rattle.std.proofs.lemmas.Result.{err_from_is_err_and}
-use Rattle.tsn_model.specs.Timing.{occupancy}
+use Rattle.tsn_model.specs.Timing.{separation}
 use Rattle.tsn_model.specs.Certificate.{begin_on}
 use Rattle.tsn_model.proofs.Routes.{hop_on_found, hop_on_link}
 use Rattle.tsn_check.specs.Turns.{decisions}
@@ -31,8 +31,8 @@ returns-in_err-sum c =
 pub begin_of-begin-requires-clause-hop : goal.begin_of-begin-requires-clause-hop
 begin_of-begin-requires-clause-hop c = (hop_on_found _ _ _ c.in-Some.hop (sym c.in-Some.ensures)).1
 
-pub occupancy-work-requires-clause-hop : goal.occupancy-work-requires-clause-hop
-occupancy-work-requires-clause-hop c = (hop_on_found _ _ _ c.in-Some.hop (sym c.in-Some.ensures)).1
+pub separation-work-requires-clause-hop : goal.separation-work-requires-clause-hop
+separation-work-requires-clause-hop c = (hop_on_found _ _ _ c.in-Some.hop (sym c.in-Some.ensures)).1
 
 pub returns : goal.returns
 unfolding begin_on
@@ -46,14 +46,14 @@ returns c =
     let same_link = hop_on_link network stream c.args.link c.in-Some.hop (sym c.in-Some.ensures) in
     let others = not_repeated c.args.before.now frame (sym c.has_frame.ensures ∙ c.if-has_frame.false) in
     let begins : c.begin_of-begin.result ≡ begin_on network c.args.link frame = c.begin_of-begin.ensures.value ∙ ap (λ n. frame.shift + n) found.2 in
-    let works : c.occupancy-work.result ≡ occupancy network stream c.args.link = c.occupancy-work.ensures.value ∙ ap (occupancy network stream) same_link in
+    let works : c.separation-work.result ≡ separation network stream c.args.link = c.separation-work.ensures.value ∙ ap (separation network stream) same_link in
     let short_begin = c.begin_of-begin.ensures.bound in
-    let short_work = c.occupancy-work.ensures.bound in
+    let short_work = c.separation-work.ensures.bound in
     let short_end = c.arrival.ensures.bound in
     rw (← c.entry.view_is) (
       record { on_link = record { sent = sent; uses = found.0 }; other_frame = others; leads = sum.leads },
       one_load network (decisions c.args.path.now) c.args.link _ _ c.in_ok-sum.sum c.begin_of-begin.result
-          c.occupancy-work.result c.arrival.result
+          c.separation-work.result c.arrival.result
           sum.adds begins works c.arrival.ensures.value sum.low sum.high short_begin short_work short_end
           (omega (arith, ints)) (omega (arith, ints)) (omega (arith, ints)),
     )

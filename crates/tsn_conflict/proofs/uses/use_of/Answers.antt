@@ -9,8 +9,8 @@ start-requires-clause-hop c =
     let on : hop_on c.args.timing.now c.args.stream c.args.link ≡ Some c.in-Some.hop = sym c.hop_on.ensures ∙ c.in-Some.is in
     (hop_on_found c.args.timing.now c.args.stream c.args.link c.in-Some.hop on).1
 
-pub occupancy-requires-clause-hop : goal.occupancy-requires-clause-hop
-occupancy-requires-clause-hop c =
+pub separation-requires-clause-hop : goal.separation-requires-clause-hop
+separation-requires-clause-hop c =
     let on : hop_on c.args.timing.now c.args.stream c.args.link ≡ Some c.in-Some.hop = sym c.hop_on.ensures ∙ c.in-Some.is in
     (hop_on_found c.args.timing.now c.args.stream c.args.link c.in-Some.hop on).1
 

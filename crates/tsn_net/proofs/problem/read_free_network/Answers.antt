@@ -9,9 +9,9 @@ use Rattle.tsn_net.proofs.problem.read_free_network.Goals as goal
 
 pub new-requires : goal.new-requires
 new-requires c =
-    let parts = free_network_of-parts (document_view c.args.document.now) c.number_at-cycle.result
+    let parts = free_network_of-parts (document_view c.args.document.now) c.number_at-cycle.result c.number_at-slack.result
     (names_in c.in_ok-numbers.numbers.keys) c.in_ok-procs.procs.items c.in_ok-links.links.items c.in_ok-list.list.items
-    c.number_at-cycle.ensures c.in_ok-numbers.ensures c.in_ok-procs.ensures c.in_ok-links.ensures
+    c.number_at-cycle.ensures c.number_at-slack.ensures c.in_ok-numbers.ensures c.in_ok-procs.ensures c.in_ok-links.ensures
     (c.in_ok-list.ensures ∙ ap
     (λ links. map (stream_of c.number_at-cycle.result (names_in c.in_ok-numbers.numbers.keys) links)
     (map view c.args.document.now.streams.now)) c.deref.ensures.value) in
@@ -19,9 +19,9 @@ new-requires c =
 
 pub returns : goal.returns
 returns c =
-    c.new.ensures ∙ free_network_of-parts (document_view c.args.document.now) c.number_at-cycle.result
+    c.new.ensures ∙ free_network_of-parts (document_view c.args.document.now) c.number_at-cycle.result c.number_at-slack.result
     (names_in c.in_ok-numbers.numbers.keys) c.in_ok-procs.procs.items c.in_ok-links.links.items c.in_ok-list.list.items
-    c.number_at-cycle.ensures c.in_ok-numbers.ensures c.in_ok-procs.ensures c.in_ok-links.ensures
+    c.number_at-cycle.ensures c.number_at-slack.ensures c.in_ok-numbers.ensures c.in_ok-procs.ensures c.in_ok-links.ensures
     (c.in_ok-list.ensures ∙ ap
     (λ links. map (stream_of c.number_at-cycle.result (names_in c.in_ok-numbers.numbers.keys) links)
     (map view c.args.document.now.streams.now)) c.deref.ensures.value)

@@ -2,7 +2,7 @@ use Rattle.std.proofs.Common.{◌≡◌, ◌+◌, [], ◌∷◌, ◌++◌, ℤ, 
 use Rattle.std.proofs.lemmas.Bool.{eqb-false}
 use Rattle.std.specs.Int.{int_min}
 use Rattle.std.proofs.lemmas.Int.{ints, to_z-of_z}
-use Rattle.tsn_model.specs.Timing.{occupancy, start_on, arrival}
+use Rattle.tsn_model.specs.Timing.{separation, start_on, arrival}
 use Rattle.tsn_model.proofs.Routes.{hop_on_found, hop_on_link}
 use Rattle.tsn_branch.specs.Loads.{link_in}
 use Rattle.tsn_branch.proofs.Loading.{link_taken}
@@ -12,13 +12,13 @@ use Rattle.tsn_branch.proofs.loads.LinkTable.put.Goals.{then-is_empty, else-is_e
 pub start-start-requires-clause-hop : goal.start-start-requires-clause-hop
 start-start-requires-clause-hop c = (hop_on_found c.args.timing.now c.args.stream c.args.self.now.link c.args.hop c.requires.hop).1
 
-pub occupancy-work-requires-clause-hop : goal.occupancy-work-requires-clause-hop
-occupancy-work-requires-clause-hop c = (hop_on_found c.args.timing.now c.args.stream c.args.self.now.link c.args.hop c.requires.hop).1
+pub separation-work-requires-clause-hop : goal.separation-work-requires-clause-hop
+separation-work-requires-clause-hop c = (hop_on_found c.args.timing.now c.args.stream c.args.self.now.link c.args.hop c.requires.hop).1
 
 pub overflow_add-self : goal.overflow_add-self
 overflow_add-self c =
     let short = c.requires.short in
-    let one = c.occupancy-work.ensures.bound in
+    let one = c.separation-work.ensures.bound in
     omega arith
 
 pub returns-clause-put : goal.returns-clause-put
@@ -30,15 +30,15 @@ returns-clause-put c =
     let found = hop_on_found network stream link c.args.hop c.requires.hop in
     let same_link = hop_on_link network stream link c.args.hop c.requires.hop in
     let begins : c.start-start.result ≡ start_on network stream link = c.start-start.ensures.value ∙ found.2 in
-    let works : c.occupancy-work.result ≡ occupancy network stream link = c.occupancy-work.ensures.value ∙ ap (occupancy network stream) same_link in
+    let works : c.separation-work.result ≡ separation network stream link = c.separation-work.ensures.value ∙ ap (separation network stream) same_link in
     let ends = c.arrival.ensures.value in
     let short_begin = c.start-start.ensures.bound in
-    let short_work = c.occupancy-work.ensures.bound in
+    let short_work = c.separation-work.ensures.bound in
     let short_end = c.arrival.ensures.bound in
     let fits_tail : FitsSigned w64 c.args.self.now.tail = search rules in
     let counted = c.args.self.now.users.ok.0 in
-    let tail : ℤ = pos (arrival network stream) -ℤ pos (start_on network stream link + occupancy network stream link) in
-    let computed : to_z w64 (of_z w64 (to_z w64 c.arrival.result -ℤ to_z w64 (c.start-start.result + c.occupancy-work.result))) ≡ tail = omega (arith, ints) in
+    let tail : ℤ = pos (arrival network stream) -ℤ pos (start_on network stream link + separation network stream link) in
+    let computed : to_z w64 (of_z w64 (to_z w64 c.arrival.result -ℤ to_z w64 (c.start-start.result + c.separation-work.result))) ≡ tail = omega (arith, ints) in
     let kept : to_z w64 (of_z w64 c.args.self.now.tail) ≡ c.args.self.now.tail = to_z-of_z w64 c.args.self.now.tail fits_tail in
     let users = c.in_ok-push.ensures.items ∙ ap (λ s. c.args.self.now.users.items ++ record { stream = stream; start = s } ∷ []) begins in
     elim c.if-is_empty.branch [

@@ -29,10 +29,10 @@ returns c =
     let value = c.look_up.ensures ∙ ap (λ (us : List (List Use)). use_in us c.args.stream c.args.link) rows in
     let read = value ∙ (Reads-used network c.args.self.now.uses c.args.stream c.args.link is.formed is.uses (c.requires network is)).value in
     let start = ap (λ (u : Use). u.start) read in
-    let occupancy = ap (λ (u : Use). u.occupancy) read in record {
+    let separation = ap (λ (u : Use). u.separation) read in record {
       counted = (Reads-used network c.args.self.now.uses c.args.stream c.args.link is.formed is.uses (c.requires network is)).row_kept;
       early = omega arith;
       short = omega arith;
       start = λ other of_other. ap (λ (u : Use). u.start) (value ∙ (Reads-used other c.args.self.now.uses c.args.stream c.args.link of_other.formed of_other.uses (c.requires other of_other)).value);
-      occupancy = λ other of_other. ap (λ (u : Use). u.occupancy) (value ∙ (Reads-used other c.args.self.now.uses c.args.stream c.args.link of_other.formed of_other.uses (c.requires other of_other)).value);
+      separation = λ other of_other. ap (λ (u : Use). u.separation) (value ∙ (Reads-used other c.args.self.now.uses c.args.stream c.args.link of_other.formed of_other.uses (c.requires other of_other)).value);
     }

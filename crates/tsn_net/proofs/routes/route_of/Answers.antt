@@ -1,0 +1,8 @@
+use Rattle.std.proofs.Common.{map, sym, ap, ◌∙◌}
+use Rattle.toml.specs.View.{view}
+use Rattle.tsn_net.specs.Document.{text_of}
+use Rattle.tsn_net.proofs.DocumentLemmas.{map-map}
+use Rattle.tsn_net.proofs.routes.route_of.Goals as goal
+
+pub returns : goal.returns
+returns c = sym (map-map text_of view c.elements_at.result.now) ∙ ap (map text_of) c.elements_at.ensures

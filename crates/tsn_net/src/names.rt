@@ -1,0 +1,132 @@
+//! What may be the matter with the names of a document, and with its cables.
+ghost use Rattle.std.specs.Prelude.{◌≡◌, is_some, not, map, option_map, position};
+ghost use Rattle.std.specs.List.{list_all, find};
+ghost use Rattle.std.specs.Str.{bytes_eq};
+ghost use Rattle.toml.specs.View.{view};
+ghost use Rattle.tsn_net.specs.Document.{IsPlace, text_at};
+ghost use Rattle.tsn_net.specs.DocumentView.{document_view, texts_view};
+ghost use Rattle.tsn_net.specs.Conditions.{has_name, joins};
+ghost use Rattle.tsn_net.specs.Matter.{Finds};
+
+use crate::document::{Document, text, text_at};
+use crate::fault::{Code, Place};
+use crate::matter::Matter;
+use crate::routes::route_of;
+use crate::schema::Key;
+use toml::Value;
+
+impl<'a> Document<'a> {
+    #[tactic(auto, unfolding(crate::specs::Conditions::duplicate_name, crate::specs::Conditions::holds))]
+    pub(crate) fn duplicate_name(&self, place: Place) -> Option<Matter<'a>>
+        requires { IsPlace (document_view self.now) place }
+        ensures { Finds Code.DuplicateName (document_view self.now) place result }
+    {
+        match place {
+            Place::Node(n) => {
+                let name = text_at(self.value_at(place), Key::Name);
+                match number_named(&self.nodes[..n], name) {
+                    Some(number) => Some(Matter::TakenName(number)),
+                    None => None,
+                }
+            }
+            Place::Stream(i) => {
+                let name = text_at(self.value_at(place), Key::Name);
+                match number_named(&self.streams[..i], name) {
+                    Some(number) => Some(Matter::TakenName(number)),
+                    None => None,
+                }
+            }
+            _ => None,
+        }
+    }
+
+    #[tactic(auto, unfolding(crate::specs::Conditions::unknown_name, crate::specs::Conditions::holds))]
+    pub(crate) fn unknown_name(&self, place: Place) -> Option<Matter<'a>>
+        requires { IsPlace (document_view self.now) place }
+        ensures { Finds Code.UnknownName (document_view self.now) place result }
+    {
+        match place {
+            Place::Cable(_) => {
+                let cable = self.value_at(place);
+                let a = text_at(cable, Key::A);
+                if !has_name(self.nodes, a) {
+                    return Some(Matter::NoNode(a));
+                }
+                let b = text_at(cable, Key::B);
+                if has_name(self.nodes, b) {
+                    None
+                } else {
+                    Some(Matter::NoNode(b))
+                }
+            }
+            Place::Stream(_) => match unknown_in(self.nodes, route_of(self.value_at(place))) {
+                Some(name) => Some(Matter::NoNode(name)),
+                None => None,
+            },
+            _ => None,
+        }
+    }
+
+    #[tactic(auto, unfolding(crate::specs::Conditions::duplicate_cable, crate::specs::Conditions::holds))]
+    pub(crate) fn duplicate_cable(&self, place: Place) -> Option<Matter<'a>>
+        requires { IsPlace (document_view self.now) place }
+        ensures { Finds Code.DuplicateCable (document_view self.now) place result }
+    {
+        match place {
+            Place::Cable(k) => {
+                let cable = self.value_at(place);
+                let a = text_at(cable, Key::A);
+                let b = text_at(cable, Key::B);
+                if a == b {
+                    return Some(Matter::Loop);
+                }
+                match number_joining(&self.cables[..k], a, b) {
+                    Some(number) => Some(Matter::TakenCable(number)),
+                    None => None,
+                }
+            }
+            _ => None,
+        }
+    }
+}
+
+pub(crate) fn has_name(tables: &[Value], name: &str) -> bool
+    ensures { result ≡ has_name (map view tables.now) name.now }
+{
+    tables.iter().any(|table| name == text_at(table, Key::Name))
+}
+
+/// Whether a cable joins these two nodes, in either direction.
+pub(crate) fn joins(x: &str, y: &str, cable: &Value) -> bool
+    ensures { result ≡ joins x.now y.now (view cable.now) }
+{
+    let a = text_at(cable, Key::A);
+    let b = text_at(cable, Key::B);
+    (a == x && b == y) || (a == y && b == x)
+}
+
+fn unknown_in<'a>(tables: &[Value], names: &'a [Value]) -> Option<&'a str>
+    ensures first { option_map (λ name. name.now) result ≡ find (λ n. not (has_name (map view tables.now) n)) (texts_view names.now) }
+    ensures found { is_some result ≡ not (list_all (has_name (map view tables.now)) (texts_view names.now)) }
+{
+    match names.iter().find(|value| !has_name(tables, text(value))) {
+        Some(value) => Some(text(value)),
+        None => None,
+    }
+}
+
+// The number of the first of the tables that has this name.
+fn number_named(tables: &[Value], name: &str) -> Option<usize>
+    ensures { result ≡ position (λ t. bytes_eq name.now (text_at Key.Name t)) (map view tables.now) }
+{
+    tables
+        .iter()
+        .position(|table| name == text_at(table, Key::Name))
+}
+
+// The number of the first of the cables that joins these two nodes.
+fn number_joining(cables: &[Value], x: &str, y: &str) -> Option<usize>
+    ensures { result ≡ position (joins x.now y.now) (map view cables.now) }
+{
+    cables.iter().position(|cable| joins(x, y, cable))
+}

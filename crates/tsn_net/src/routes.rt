@@ -1,0 +1,235 @@
+//! What may be the matter with a route.
+ghost use Rattle.std.specs.Prelude.{◌≡◌, ◌≤◌, ◌&&◌, List, IfSome, is_some, not, nat_le, map, length, option_map, position};
+ghost use Rattle.std.specs.List.{list_any, list_all, find};
+ghost use Rattle.std.specs.Str.{bytes_eq};
+ghost use Rattle.toml.specs.Data.{Data};
+ghost use Rattle.toml.specs.View.{view};
+ghost use Rattle.tsn_net.specs.Document.{IsPlace, text_at};
+ghost use Rattle.tsn_net.specs.DocumentView.{document_view, texts_view};
+ghost use Rattle.tsn_net.specs.Conditions.{octet_time, delay_over, is_quick, repeats, names_station, names_bridge, inner, route_of, joins};
+ghost use Rattle.tsn_net.specs.Matter.{Finds, FindsRoute, FindsGap, FindsQuick, IsOfRoute, first_again, matter_code};
+
+use crate::document::{Document, elements_at, number_at, text, text_at};
+use crate::fault::{Code, Place};
+use crate::matter::{End, Matter};
+use crate::names::joins;
+use crate::schema::{Key, is_bridge, is_station};
+use toml::Value;
+
+impl<'a> Document<'a> {
+    #[tactic(auto, unfolding(crate::specs::Conditions::bad_route, crate::specs::Conditions::holds))]
+    pub(crate) fn bad_route(&self, place: Place) -> Option<Matter<'a>>
+        requires { IsPlace (document_view self.now) place }
+        ensures { Finds Code.BadRoute (document_view self.now) place result }
+    {
+        match place {
+            Place::Stream(_) => route_amiss(self.nodes, route_of(self.value_at(place))),
+            _ => None,
+        }
+    }
+
+    #[tactic(auto, unfolding(crate::specs::Conditions::no_cable, crate::specs::Conditions::holds))]
+    pub(crate) fn no_cable(&self, place: Place) -> Option<Matter<'a>>
+        requires { IsPlace (document_view self.now) place }
+        ensures { Finds Code.NoCable (document_view self.now) place result }
+    {
+        match place {
+            Place::Stream(_) => gap_in(self.cables, route_of(self.value_at(place))),
+            _ => None,
+        }
+    }
+
+    #[tactic(auto, unfolding(crate::specs::Conditions::bad_slack, crate::specs::Conditions::holds))]
+    pub(crate) fn bad_slack(&self, place: Place) -> Option<Matter<'a>>
+        requires { IsPlace (document_view self.now) place }
+        ensures { Finds Code.BadSlack (document_view self.now) place result }
+    {
+        match place {
+            Place::Stream(_) => {
+                let slack = number_at(self.top, Key::Slack);
+                let stream = self.value_at(place);
+                let octets = number_at(stream, Key::Octets);
+                quick_hop(slack, octets, self.nodes, self.cables, route_of(stream))
+            }
+            _ => None,
+        }
+    }
+}
+
+// Whether one of the cables joins these two nodes.
+fn are_joined(cables: &[Value], x: &str, y: &str) -> bool
+    ensures { result ≡ list_any (joins x.now y.now) (map view cables.now) }
+{
+    cables.iter().any(|cable| joins(x, y, cable))
+}
+
+/// How long an octet takes, in nanoseconds, at a rate in Mb/s.
+pub(crate) fn octet_time(mbps: u64) -> u64
+    ensures value { result ≡ octet_time mbps }
+    ensures bound { result ≤ 800 }
+{
+    match mbps {
+        1000 => 8,
+        100 => 80,
+        _ => 800,
+    }
+}
+
+// Whether a frame of so many octets takes no longer than the slack over the cable until the node may start it on the next.
+fn takes_at_most(slack: u64, octets: u64, cable: &Value, node: &Value) -> bool
+    ensures { result ≡ nat_le (delay_over octets (view cable.now) (view node.now)) slack }
+{
+    let sent = (octets as u128 + 8) * octet_time(number_at(cable, Key::Mbps)) as u128;
+    let there = sent + number_at(cable, Key::Prop) as u128;
+    there + number_at(node, Key::Proc) as u128 <= slack as u128
+}
+
+// Whether it is so of the node of this name.
+fn takes_at_most_to(slack: u64, octets: u64, cable: &Value, nodes: &[Value], to: &str) -> bool
+    ensures { result ≡ list_any (λ node. bytes_eq (text_at Key.Name node) to.now && nat_le (delay_over octets (view cable.now) node) slack) (map view nodes.now) }
+{
+    nodes.iter().any(|node| text_at(node, Key::Name) == to
+        && takes_at_most(slack, octets, cable, node))
+}
+
+// Whether it is so from one node to another, over a cable that joins them.
+fn is_quick(
+    slack: u64,
+    octets: u64,
+    nodes: &[Value],
+    cables: &[Value],
+    from: &str,
+    to: &str,
+) -> bool
+    ensures { result ≡ is_quick slack octets (map view nodes.now) (map view cables.now) (from.now, to.now) }
+{
+    cables.iter().any(|cable| joins(from, to, cable)
+        && takes_at_most_to(slack, octets, cable, nodes, to))
+}
+
+/// The names of a stream's route.
+pub(crate) fn route_of(stream: &Value) -> &[Value]
+    ensures { texts_view result.now ≡ route_of (view stream.now) }
+{
+    elements_at(stream, Key::Route)
+}
+
+// Whether the node of this name is a station.
+fn names_station(nodes: &[Value], name: &str) -> bool
+    ensures { result ≡ names_station (map view nodes.now) name.now }
+{
+    nodes.iter().any(|node| text_at(node, Key::Name) == name && is_station(node))
+}
+
+// Whether the node of this name is a bridge.
+fn names_bridge(nodes: &[Value], name: &str) -> bool
+    ensures { result ≡ names_bridge (map view nodes.now) name.now }
+{
+    nodes
+        .iter()
+        .any(|node| text_at(node, Key::Name) == name && is_bridge(node))
+}
+
+// The names of a route without its ends.
+fn inner(route: &[Value]) -> &[Value]
+    requires { 2 ≤ length route.now }
+    ensures { texts_view result.now ≡ inner (texts_view route.now) }
+{
+    &route[1..route.len() - 1]
+}
+
+fn no_bridge_in<'a>(nodes: &[Value], names: &'a [Value]) -> Option<&'a str>
+    ensures first { option_map (λ name. name.now) result ≡ find (λ n. not (names_bridge (map view nodes.now) n)) (texts_view names.now) }
+    ensures found { is_some result ≡ not (list_all (names_bridge (map view nodes.now)) (texts_view names.now)) }
+{
+    match names.iter().find(|value| !names_bridge(nodes, text(value))) {
+        Some(value) => Some(text(value)),
+        None => None,
+    }
+}
+
+// The number of the first of the texts that is this one.
+fn number_of_text(texts: &[Value], wanted: &str) -> Option<usize>
+    ensures { result ≡ position (bytes_eq wanted.now) (texts_view texts.now) }
+{
+    texts.iter().position(|value| wanted == text(value))
+}
+
+// What is the matter with a route that doesn't run from a station over bridges to a station, or has a node twice.
+fn route_amiss<'a>(nodes: &[Value], route: &'a [Value]) -> Option<Matter<'a>>
+    ensures { FindsRoute (map view nodes.now) (texts_view route.now) result }
+{
+    let count = route.len();
+    if count < 2 {
+        return Some(Matter::ShortRoute(count));
+    }
+    if let Some(matter) = repeated(route) {
+        return Some(matter);
+    }
+    let first = text(&route[0]);
+    if !names_station(nodes, first) {
+        return Some(Matter::NoStation(first, End::First));
+    }
+    let last = text(&route[count - 1]);
+    if !names_station(nodes, last) {
+        return Some(Matter::NoStation(last, End::Last));
+    }
+    match no_bridge_in(nodes, inner(route)) {
+        Some(name) => Some(Matter::NoBridge(name)),
+        None => None,
+    }
+}
+
+// The first name that stands twice, with its first two indices.
+fn repeated(names: &[Value]) -> Option<Matter<'_>>
+    requires { 2 ≤ length names.now }
+    ensures twice { is_some result ≡ repeats (texts_view names.now) }
+    ensures first { is_some result ≡ is_some (first_again (texts_view names.now)) }
+    ensures so { (nodes : List Data) → IfSome result (λ m. (matter_code m ≡ Code.BadRoute) × IsOfRoute nodes (texts_view names.now) m) }
+{
+    for i in 0..names.len() {
+        let name = text(&names[i]);
+        if let Some(behind) = number_of_text(&names[i + 1..], name) {
+            return Some(Matter::Twice(name, i, i + 1 + behind));
+        }
+    }
+    None
+}
+
+// The first two neighbours of a route that no cable joins.
+fn gap_in<'a>(cables: &[Value], route: &'a [Value]) -> Option<Matter<'a>>
+    ensures { FindsGap (map view cables.now) (texts_view route.now) result }
+{
+    for k in 1..route.len() {
+        let from = text(&route[k - 1]);
+        let to = text(&route[k]);
+        if !are_joined(cables, from, to) {
+            return Some(Matter::NoCable(k - 1, from, to));
+        }
+    }
+    None
+}
+
+// The first hop of a route, of those that another one follows, over which a frame of so many octets takes no longer than the
+// slack.
+fn quick_hop<'a>(
+    slack: u64,
+    octets: u64,
+    nodes: &[Value],
+    cables: &[Value],
+    route: &'a [Value],
+) -> Option<Matter<'a>>
+    ensures { FindsQuick slack octets (map view nodes.now) (map view cables.now) (texts_view route.now) result }
+{
+    if slack == 0 {
+        return None;
+    }
+    for k in 2..route.len() {
+        let from = text(&route[k - 2]);
+        let to = text(&route[k - 1]);
+        if is_quick(slack, octets, nodes, cables, from, to) {
+            return Some(Matter::BadSlack(slack, k - 2, from, to));
+        }
+    }
+    None
+}
