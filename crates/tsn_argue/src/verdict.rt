@@ -3,6 +3,7 @@ ghost use Rattle.std.specs.Prelude.{◌≡◌, ◌⊎◌, IfOk, IfErr, IsOkUnles
 ghost use Rattle.tsn_model.specs.Schedule.{HasNoSchedule};
 ghost use Rattle.tsn_model.specs.Argument.{Goal as ModelGoal};
 ghost use Rattle.tsn_cert.specs.Argument.{steps_of};
+ghost use Rattle.tsn_check.specs.Judged.{IsJudged};
 ghost use Rattle.tsn_check.specs.Plans.{IsOptimalPlan, IsFirstPlan, IsPlanRight};
 ghost use Rattle.tsn_argue.specs.Certified.{ArgumentCertifies, Certifies, IsFitting, argument_verdict, certificate_verdict};
 ghost use Rattle.tsn_argue.specs.Faults.{IsWhy, IsShowFault, IsFirstFault};
@@ -26,18 +27,8 @@ pub fn check_certificate(
     plan: &Plan,
     certificate: &Certificate,
 ) -> Result<Verdict, CheckFault>
-    ensures accepted { IfOk result (λ verdict. Certifies problem.now.network plan.now certificate.now) }
-    ensures verdict { IfOk result (λ verdict. verdict ≡ certificate_verdict certificate.now plan.now) }
-
-    // What the verdict means.
-    ensures optimal { result ≡ Ok Verdict.Optimal → IsOptimalPlan problem.now.network plan.now }
-    ensures first { result ≡ Ok Verdict.First → IsFirstPlan problem.now.network plan.now }
-    ensures no_schedule { result ≡ Ok Verdict.NoSchedule → HasNoSchedule problem.now.network }
-
-    // Whatever shows it is accepted, and else the first fault is told, unless memory is wanting.
-    ensures complete { Certifies problem.now.network plan.now certificate.now → IsOkUnless result CheckFault.Memory }
-    ensures fault { IfErr result (λ fault. (fault ≡ CheckFault.Memory)
-        ⊎ IsFirstFault problem.now.network plan.now certificate.now fault) }
+    ensures judged { IsJudged problem.now.network plan.now (Certifies problem.now.network plan.now certificate.now)
+        (certificate_verdict certificate.now plan.now) CheckFault.Memory (IsFirstFault problem.now.network plan.now certificate.now) result }
 {
     match certificate {
         Certificate::Tree(cert) => check(alloc, problem, plan, cert),
@@ -53,14 +44,8 @@ pub fn check_argument(
     plan: &Plan,
     argument: &Argument,
 ) -> Result<Verdict, CheckFault>
-    ensures accepted { IfOk result (λ verdict. ArgumentCertifies problem.now.network plan.now argument.now) }
-    ensures verdict { IfOk result (λ verdict. verdict ≡ argument_verdict argument.now.goal) }
-    ensures optimal { result ≡ Ok Verdict.Optimal → IsOptimalPlan problem.now.network plan.now }
-    ensures first { result ≡ Ok Verdict.First → IsFirstPlan problem.now.network plan.now }
-    ensures no_schedule { result ≡ Ok Verdict.NoSchedule → HasNoSchedule problem.now.network }
-    ensures complete { ArgumentCertifies problem.now.network plan.now argument.now → IsOkUnless result CheckFault.Memory }
-    ensures fault { IfErr result (λ fault. (fault ≡ CheckFault.Memory)
-        ⊎ IsShowFault problem.now.network plan.now argument.now fault) }
+    ensures judged { IsJudged problem.now.network plan.now (ArgumentCertifies problem.now.network plan.now argument.now)
+        (argument_verdict argument.now.goal) CheckFault.Memory (IsShowFault problem.now.network plan.now argument.now) result }
 {
     let mut silent = Silent;
     hear_argument(alloc, problem, plan, argument, &mut silent)
@@ -74,14 +59,8 @@ pub fn hear_argument<L: Observer>(
     argument: &Argument,
     observer: &mut L,
 ) -> Result<Verdict, CheckFault>
-    ensures accepted { IfOk result (λ verdict. ArgumentCertifies problem.now.network plan.now argument.now) }
-    ensures verdict { IfOk result (λ verdict. verdict ≡ argument_verdict argument.now.goal) }
-    ensures optimal { result ≡ Ok Verdict.Optimal → IsOptimalPlan problem.now.network plan.now }
-    ensures first { result ≡ Ok Verdict.First → IsFirstPlan problem.now.network plan.now }
-    ensures no_schedule { result ≡ Ok Verdict.NoSchedule → HasNoSchedule problem.now.network }
-    ensures complete { ArgumentCertifies problem.now.network plan.now argument.now → IsOkUnless result CheckFault.Memory }
-    ensures fault { IfErr result (λ fault. (fault ≡ CheckFault.Memory)
-        ⊎ IsShowFault problem.now.network plan.now argument.now fault) }
+    ensures judged { IsJudged problem.now.network plan.now (ArgumentCertifies problem.now.network plan.now argument.now)
+        (argument_verdict argument.now.goal) CheckFault.Memory (IsShowFault problem.now.network plan.now argument.now) result }
     ensures told { OnOk result ((goal : ModelGoal) → IsFitting problem.now.network plan.now argument.now goal
         → L.heard observer.new ≡ with_told (L.heard observer.old) (told_of problem.now.network goal (steps_of argument.now.steps))) }
 {

@@ -7,3 +7,4 @@ pub mod Turns
 pub mod Steps
 pub mod Laws
 pub mod Limits
+pub mod Judged

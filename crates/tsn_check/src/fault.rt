@@ -30,7 +30,7 @@ pub enum CheckFault {
     #[error("the bound of node {0} is too low")]
     BoundTooLow(usize),
     /// An entry of the leaf has the frame of an entry before it.
-    #[error("node {0} has a stream twice")]
+    #[error("node {0} has a frame twice")]
     StreamRepeated(usize),
     /// The frame of an entry of the leaf isn't sent, or its stream isn't there or doesn't use the leaf's link.
     #[error("node {0} has a stream that doesn't use its link")]

@@ -5,6 +5,7 @@ ghost use Rattle.tsn_check.specs.Claims.{IsClaim, IsWellPosed};
 ghost use Rattle.tsn_model.specs.Certificate.{IsNodeShown};
 ghost use Rattle.tsn_model.specs.Places.{Fills};
 ghost use Rattle.tsn_cert.specs.Node.{tree_node};
+ghost use Rattle.tsn_check.specs.Judged.{IsJudged};
 ghost use Rattle.tsn_check.specs.Plans.{IsPlanRight, IsOptimalPlan, IsFirstPlan, offsets_in};
 ghost use Rattle.tsn_check.specs.Certified.{TreeCertifies, leaf_target, tie_plan, verdict_of};
 ghost use Rattle.tsn_check.specs.Faults.{IsWrongTree, IsWhy, IsFirstFault};
@@ -38,18 +39,8 @@ pub fn check(
     plan: &Plan,
     cert: &Cert,
 ) -> Result<Verdict, CheckFault>
-    ensures accepted { IfOk result (λ verdict. TreeCertifies problem.now.network plan.now cert.now) }
-    ensures verdict { IfOk result (λ verdict. verdict ≡ verdict_of cert.now.format plan.now) }
-
-    // What the verdict means.
-    ensures optimal { result ≡ Ok Verdict.Optimal → IsOptimalPlan problem.now.network plan.now }
-    ensures first { result ≡ Ok Verdict.First → IsFirstPlan problem.now.network plan.now }
-    ensures no_schedule { result ≡ Ok Verdict.NoSchedule → HasNoSchedule problem.now.network }
-
-    // Whatever shows it is accepted, and else the first fault is told, unless memory is wanting.
-    ensures complete { TreeCertifies problem.now.network plan.now cert.now → IsOkUnless result CheckFault.Memory }
-    ensures fault { IfErr result (λ fault. (fault ≡ CheckFault.Memory)
-        ⊎ IsFirstFault problem.now.network plan.now cert.now fault) }
+    ensures judged { IsJudged problem.now.network plan.now (TreeCertifies problem.now.network plan.now cert.now)
+        (verdict_of cert.now.format plan.now) CheckFault.Memory (IsFirstFault problem.now.network plan.now cert.now) result }
 {
     match judge_tree(alloc, problem, plan, cert) {
         Ok(verdict) => Ok(verdict),
