@@ -1,10 +1,10 @@
 -- A schedule's gate lists can be replayed.
-use Rattle.std.proofs.Common.{◌≡◌, ℕ, ◌<◌, ◌*◌, List, length, All, AllPairs, Bool, true, false, Option, Some, None, refl, arith}
+use Rattle.std.proofs.Common.{◌≡◌, ℕ, ◌<◌, ◌*◌, List, length, All, AllPairs, Bool, true, false, Option, Some, None, refl, sym, subst, arith}
 use Rattle.std.specs.List.{Any}
 use Rattle.std.proofs.lemmas.List.Elements.{All-nil}
 use Rattle.tsn_model.specs.Network.{Network, IsWellFormed, route_link}
 use Rattle.tsn_model.specs.Gates.{cycle_of}
-use Rattle.tsn_model.specs.Bridge.{LinkGates}
+use Rattle.tsn_model.specs.Bridge.{LinkGates, Background, IsFed}
 use Rattle.tsn_model.proofs.Hops.{hop_uses}
 use Rattle.tsn_gate.specs.GateLists.{IsUsed}
 use Rattle.tsn_gate.specs.Merged.{AreListsBy}
@@ -12,6 +12,11 @@ use Rattle.tsn_gate.specs.Faults.{NamesLinks, KeepsLimits, IsListed, IsWithin, H
 use Rattle.tsn_gate.specs.declared.replay_fault.ReplayFault.{ReplayFault}
 use Rattle.tsn_gate.specs.declared.replay_fault.ReplayFault.TheVariants.{UnknownLink, Limit, Memory}
 use Rattle.tsn_gate.specs.Feeding.{background_for}
+use Rattle.tsn_gate.specs.Records.{AreRowsOfRun, AreRowsOfEarlyRun}
+use Rattle.tsn_gate.specs.declared.trace.Row.{Row}
+use Rattle.tsn_timing.specs.Problem.{NamedNetwork}
+use Rattle.tsn_cli.specs.declared.options.ReplayOptions.{ReplayOptions}
+use Rattle.tsn_cli.specs.Tables.{IsRunBy, AreRowsBy}
 
 -- lists that last the cycle, one for each link that a stream uses
 record AreWhole (network : Network) (lists : List LinkGates) : Type 0 where
@@ -50,3 +55,25 @@ module _ (network : Network) (formed : IsWellFormed network) (offsets : List ℕ
   memory_alone cycles is_greedy UnknownLink fault = absurd (fault (names is_greedy))
   memory_alone cycles is_greedy Limit fault = absurd (fault.1 (keeps cycles is_greedy))
   memory_alone cycles is_greedy Memory fault = refl
+
+-- ---- the rows of a replay, with frames that are early or without
+
+module _ (options : ReplayOptions) (problem : NamedNetwork) (offsets : List ℕ) (lists : List LinkGates) (background : Background)
+    (background_is : background ≡ background_for options.greedy) (rows : List Row) where
+  pub rows_of_run : options.early ≡ None → AreRowsOfRun problem.network offsets lists options.cycles background rows
+      → AreRowsBy options problem offsets lists rows
+  rows_of_run early are = (
+    are.run,
+    subst (λ e. IsRunBy e problem.network offsets lists options.cycles are.run) (sym early) are.is_run,
+    subst (λ b. IsFed problem.network lists options.cycles b are.run) background_is are.fed,
+    are.are_rows,
+  )
+
+  pub rows_of_early_run : (slack : ℕ) → options.early ≡ Some slack → AreRowsOfEarlyRun problem.network offsets lists options.cycles slack background rows
+      → AreRowsBy options problem offsets lists rows
+  rows_of_early_run slack early are = (
+    are.run,
+    subst (λ e. IsRunBy e problem.network offsets lists options.cycles are.run) (sym early) (are.ready, are.is_run),
+    subst (λ b. IsFed problem.network lists options.cycles b are.run) background_is are.fed,
+    are.are_rows,
+  )

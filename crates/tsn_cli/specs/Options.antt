@@ -15,7 +15,7 @@ gates_options words = record { format = words.format; merge = words.merge; limit
 
 -- how a replay is made and printed
 abbrev pub replay_options : ReplayWords → ReplayOptions
-replay_options words = record { cycles = words.cycles; greedy = words.greedy; format = words.format; merge = words.merge }
+replay_options words = record { cycles = words.cycles; greedy = words.greedy; format = words.format; merge = words.merge; early = words.early }
 
 -- which links are drawn: the one that is named, and else all in use or some, as is asked for
 abbrev pub shown_of : Option ℕ → Bool → LinkChoice

@@ -3,11 +3,12 @@
 --     ShowsLists, ShowsReplay, ShowsShares, ShowsTable      the table of a plan
 --     RejectsPlan                              a plan that has none
 --     TableAnswers, GatesAnswers, ReplayAnswers, ChartAnswers, StreamsAnswers    the answer to the files read so far
-use Rattle.std.specs.Prelude.{◌≡◌, ◌⊎◌, ◌↔◌, ℕ, ◌≤◌, List, [], ◌∷◌, Ok}
+use Rattle.std.specs.Prelude.{◌≡◌, ◌⊎◌, ◌↔◌, ℕ, ◌≤◌, List, [], ◌∷◌, Ok, Option, Some, None}
+use Rattle.std.specs.Option.{ForSome}
 use Rattle.tsn_model.specs.Network.{Network}
 use Rattle.tsn_model.specs.Schedule.{IsValid, flowspan}
-use Rattle.tsn_model.specs.Bridge.{LinkGates, BridgeRun, IsBridgeRun, IsFed}
-use Rattle.tsn_model.specs.Early.{Tolerates}
+use Rattle.tsn_model.specs.Bridge.{LinkGates, Passage, BridgeRun, IsBridgeRun, IsFed}
+use Rattle.tsn_model.specs.Early.{IsEarlyRun, Tolerates}
 use Rattle.tsn_net.specs.File.{States}
 use Rattle.tsn_timing.specs.Problem.{NamedNetwork}
 use Rattle.tsn_cert.specs.declared.plan.Plan.{Plan}
@@ -61,12 +62,23 @@ shares_text shares.Csv problem each links slack = streams_csv.csv_text problem e
 abbrev pub ShowsLists : GatesOptions → NamedNetwork → List ℕ → Output → Type 0
 ShowsLists options problem offsets output = (all : List LinkGates) × AreListsBy options.merge problem.network offsets all × IsLine 0 (lists_text options problem all) output
 
--- the output is the text of a bridge run of so many cycles by these lists, fed by that background
+-- the run is one of bridges by these lists, for so many cycles; where frames are to be early, one in which they are so by at most that much
+abbrev pub IsRunBy : Option ℕ → Network → List ℕ → List LinkGates → ℕ → BridgeRun → Type 0
+IsRunBy None network offsets lists cycles run = IsBridgeRun network offsets lists cycles run
+IsRunBy (Some slack) network offsets lists cycles run = (ready : Passage → ℕ) × IsEarlyRun network offsets lists cycles (λ link. slack) ready run
+
+-- the rows are those of such a run, fed by that background
+abbrev pub AreRowsBy : ReplayOptions → NamedNetwork → List ℕ → List LinkGates → List Row → Type 0
+AreRowsBy options problem offsets lists rows =
+    (run : BridgeRun) × IsRunBy options.early problem.network offsets lists options.cycles run
+    × IsFed problem.network lists options.cycles (background_for options.greedy) run
+    × AreRows problem.network offsets options.cycles run rows
+
+-- the output is the text of the rows of such a run by the lists that are asked for
 abbrev pub ShowsReplay : ReplayOptions → NamedNetwork → List ℕ → Output → Type 0
 ShowsReplay options problem offsets output =
     (lists : List LinkGates) × AreListsBy options.merge problem.network offsets lists
-    × ((run : BridgeRun) × IsBridgeRun problem.network offsets lists options.cycles run × IsFed problem.network lists options.cycles (background_for options.greedy) run
-    × ((rows : List Row) × AreRows problem.network offsets options.cycles run rows × IsLine 0 (rows_text options.format problem rows) output))
+    × ((rows : List Row) × AreRowsBy options problem offsets lists rows × IsLine 0 (rows_text options.format problem rows) output)
 
 -- the output is a picture, of which nothing more is said
 abbrev pub ShowsPicture : Output → Type 0
@@ -86,10 +98,10 @@ ShowsTable (Replay options) problem offsets output = ShowsReplay options problem
 ShowsTable (Chart drawing) problem offsets output = ShowsPicture output
 ShowsTable (Streams format) problem offsets output = ShowsShares format problem offsets output
 
--- a replay has 1 to 16 cycles
+-- a replay has 1 to 16 cycles, and frames are early by at most a millisecond
 abbrev pub CanShow : Table → Type 0
 CanShow (Gates options) = Unit {0}
-CanShow (Replay options) = (1 ≤ options.cycles) × (options.cycles ≤ 16)
+CanShow (Replay options) = (1 ≤ options.cycles) × (options.cycles ≤ 16) × ForSome options.early (λ time. time ≤ 1000000)
 CanShow (Chart drawing) = Unit {0}
 CanShow (Streams format) = Unit {0}
 

@@ -16,13 +16,14 @@ pub struct GatesOptions {
 }
 
 /// A replay of so many cycles, with no background or a greedy one, how it is printed, and the lists by which it runs, as
-/// `GatesOptions` has them.
+/// `GatesOptions` has them. Where frames are ready early, by how many nanoseconds.
 #[derive(Clone, Copy)]
 pub struct ReplayOptions {
     pub cycles: usize,
     pub greedy: bool,
     pub format: ReplayFormat,
     pub merge: Option<u64>,
+    pub early: Option<u64>,
 }
 
 /// What a plan may be shown by.
@@ -61,6 +62,7 @@ pub fn replay_options(words: ReplayWords<'_>) -> ReplayOptions
         greedy: words.greedy,
         format: words.format,
         merge: words.merge,
+        early: words.early,
     }
 }
 

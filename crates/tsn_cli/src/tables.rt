@@ -1,6 +1,6 @@
 //! `gates`, `replay`, `chart` and `streams`: print the gate control lists of a plan, a replay by them, a picture, and what each
 //! stream and each link gets.
-ghost use Rattle.std.specs.Prelude.{◌≡◌, ◌≤◌, ◌<◌, ◌-◌, ◌^◌, ◌⊎◌, [], ◌∷◌, All, IfOk, IsErr, Ok, length, string_bytes};
+ghost use Rattle.std.specs.Prelude.{◌≡◌, ◌≤◌, ◌<◌, ◌-◌, ◌^◌, ◌⊎◌, [], ◌∷◌, All, IfOk, IfErr, IsErr, Ok, length, string_bytes};
 ghost use Rattle.tsn_model.specs.Schedule.{IsValid};
 ghost use Rattle.tsn_check.specs.Numbers.{plan_code};
 ghost use Rattle.tsn_outcome.specs.Run.{RunsOver, sink_over, source_over};
@@ -10,18 +10,24 @@ ghost use Rattle.tsn_cli.specs.Shown.{shown_output};
 ghost use Rattle.tsn_gate.specs.declared.trace.Row.{Row};
 ghost use Rattle.tsn_chart.specs.declared.link.LinkShare.{LinkShare};
 ghost use Rattle.tsn_chart.specs.declared.stream.StreamShare.{StreamShare};
-ghost use Rattle.tsn_cli.specs.Tables.{CanShow, GatesAnswers, RejectsPlan, ReplayAnswers, ShowsLists, ShowsPicture, ShowsPlan, ShowsReplay, ShowsShares, ShowsTable, TableAnswers, rows_text, shares_text};
+ghost use Rattle.std.specs.Option.{ForSome};
+ghost use Rattle.tsn_gate.specs.Faults.{HasReplayFault};
+ghost use Rattle.tsn_gate.specs.Feeding.{background_for};
+ghost use Rattle.tsn_cli.specs.Tables.{AreRowsBy, CanShow, GatesAnswers, RejectsPlan, ReplayAnswers, ShowsLists, ShowsPicture, ShowsPlan, ShowsReplay, ShowsShares, ShowsTable, TableAnswers, rows_text, shares_text};
 
 use crate::inputs::{BothRead, read_both};
 use crate::options::{GatesOptions, ReplayOptions, Table};
 use crate::shown::{Shown, show};
-use crate::untaken::untaken;
+use crate::untaken::{unborne, untaken};
 use std::alloc::Global;
 use tsn_cert::Plan;
 use tsn_chart::{Drawing, Shares, marked_chart, plan_shares, to_csv, to_json, to_text};
 use tsn_check::{PlanFault, judge_plan};
 use tsn_device::device::{ReadFault, Sink, Source};
-use tsn_gate::{Background, ReplayFault, ReplayTable, gate_lists, lists_by, replay_rows, text_in};
+use tsn_gate::{
+    Background, GateList, ReplayFault, ReplayTable, gate_lists, lists_by, replay_early,
+    replay_rows, text_in,
+};
 use tsn_model::{Frame, NoMemory};
 use tsn_outcome::{Claim, line_on_plan, rejection};
 use tsn_timing::{Problem, Valid};
@@ -54,7 +60,8 @@ pub fn gates_run<N: Source, P: Source, W: Sink>(
 
 /// Reads a network file and a plan file, the first judged before the second is read, and writes, in a format, a
 /// replay of the plan by its gate control lists, merged where that is asked for, over 1 to 16 cycles, with no background or, where
-/// `greedy`, with a background frame of 1522 octets always waiting; or a line on what is refused. The answer is the status.
+/// `greedy`, with a background frame of 1522 octets always waiting, and with frames that are ready early where that is asked for;
+/// or a line on what is refused. The answer is the status.
 #[tactic(auto, using(crate::proofs::CommandLemmas::shown_runs))]
 pub fn replay_run<N: Source, P: Source, W: Sink>(
     alloc: Global,
@@ -65,6 +72,7 @@ pub fn replay_run<N: Source, P: Source, W: Sink>(
 ) -> u8
     requires some { 1 ≤ options.cycles }
     requires few { options.cycles ≤ 16 }
+    requires soon { ForSome options.early (λ time. time ≤ 1000000) }
     requires network_reads { N.failed network.old < 2 ^ 64 - 1 }
     requires plan_reads { P.failed plan.old < 2 ^ 64 - 1 }
     requires writes { W.failed sink.old < 2 ^ 64 - 1 }
@@ -183,19 +191,51 @@ fn replay_table(
 ) -> Result<Shown, NoMemory>
     requires some { 1 ≤ options.cycles }
     requires few { options.cycles ≤ 16 }
+    requires soon { ForSome options.early (λ time. time ≤ 1000000) }
     requires valid { IsValid problem.now.network valid.now }
     ensures { IfOk result (λ a. ShowsReplay options problem.now valid.now (shown_output (Ok a))) }
 {
     let lists = lists_by(alloc, problem, valid, options.merge)?;
-    let background = Background::of(options.greedy);
     // The network is within its limits.
     let _limits = problem.cycle();
-    let table = match replay_rows(alloc, problem, valid, &lists, options.cycles, &background) {
+    let table = match replayed_by(alloc, problem, valid, &lists, options) {
         Ok(table) => table,
         Err(fault) => return Err(want_of_memory(fault)),
     };
     let text = rows_text(alloc, problem, &table, options.format)?;
-    Ok(Shown::Text(text, None))
+    let remarks = unborne(alloc, problem, options.merge)?;
+    Ok(Shown::Text(text, Some(remarks)))
+}
+
+// A replay by these lists, with frames that are ready early where that is asked for.
+fn replayed_by(
+    alloc: Global,
+    problem: &Problem,
+    valid: &Valid,
+    lists: &[GateList],
+    options: ReplayOptions,
+) -> Result<ReplayTable, ReplayFault>
+    requires some { 1 ≤ options.cycles }
+    requires few { options.cycles ≤ 16 }
+    requires soon { ForSome options.early (λ time. time ≤ 1000000) }
+    requires valid { IsValid problem.now.network valid.now }
+    ensures rows { IfOk result (λ table. AreRowsBy options problem.now valid.now lists.now table) }
+    ensures named { IfOk result (λ table. All (λ (row : Row). row.stream < length problem.now.stream_names) table) }
+    ensures fault { IfErr result (HasReplayFault problem.now.network lists.now options.cycles (background_for options.greedy)) }
+{
+    let background = Background::of(options.greedy);
+    match options.early {
+        None => replay_rows(alloc, problem, valid, lists, options.cycles, &background),
+        Some(slack) => replay_early(
+            alloc,
+            problem,
+            valid,
+            lists,
+            options.cycles,
+            &background,
+            slack,
+        ),
+    }
 }
 
 fn rows_text(
@@ -233,7 +273,7 @@ fn lists(
     let lists = lists_by(alloc, problem, valid, options.merge)?;
     let text = text_in(alloc, problem, &lists, options.format, options.limits)?;
     let remarks = untaken(alloc, problem, &lists, options)?;
-    Ok(Shown::Text(text, remarks))
+    Ok(Shown::Text(text, Some(remarks)))
 }
 
 // The picture of a valid schedule, in which some frames may be marked.

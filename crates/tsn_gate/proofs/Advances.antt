@@ -7,23 +7,27 @@ use Rattle.tsn_model.specs.Network.{Network, hop_count}
 use Rattle.tsn_model.specs.Bridge.{Passage, BridgeRun, StartedAt, IsReady}
 use Rattle.tsn_gate.specs.declared.queue.Frame.{Frame}
 use Rattle.tsn_gate.specs.Queue.{frame_in, passage_of}
-use Rattle.tsn_gate.specs.Progress.{IsFrame, IsTracked, advanced}
-use Rattle.tsn_gate.proofs.PassageStarts.{with_passage, new_start}
+use Rattle.tsn_gate.specs.Progress.{Turn, Plan, IsFrame, IsTracked, with_turns, with_turn, advanced}
+use Rattle.tsn_gate.proofs.PassageStarts.{with_passage, new_start, turned, turned_same, turned_other, onward}
 
-module _ (network : Network) (offsets : List ℕ) (cycles : ℕ) (run : BridgeRun) (time : ℕ) (frame : Frame) (waits : frame.hop < hop_count network frame.stream) (is : IsFrame network offsets cycles run frame) where
+module _ (network : Network) (plan : Plan) (cycles : ℕ) (run : BridgeRun) (time : ℕ) (frame : Frame) (waits : frame.hop < hop_count network frame.stream)
+    (is : IsFrame network plan cycles run frame) (turn : Turn) where
+  abbrev turns : Passage → Turn
+  turns = turned plan.turn (onward (passage_of frame)) turn
+
   abbrev new : BridgeRun
   new = with_passage run (passage_of frame) time
 
   kept : (p : Passage) (s : ℕ) → StartedAt run p s → StartedAt new p s
   kept p s at = Contains-append_left run.scheduled _ _ at
 
-  ready_kept : (p : Passage) (t : ℕ) → IsReady network offsets run p t → IsReady network offsets new p t
+  ready_kept : (p : Passage) (t : ℕ) → IsReady network plan.offsets run p t → IsReady network plan.offsets new p t
   ready_kept p t (inl first) = inl first
   ready_kept p t (inr (before, s, next, at, after)) = inr (before, s, next, kept (record p { hop = before }) s at, after)
 
   -- another frame is what it was
-  pub others_kept : (other : Frame) → IsFrame network offsets cycles run other
-      → (frame.stream ≡ other.stream → frame.shift ≡ other.shift → frame.cycle ≡ other.cycle → ⊥) → IsFrame network offsets cycles new other
+  pub others_kept : (other : Frame) → IsFrame network plan cycles run other
+      → (frame.stream ≡ other.stream → frame.shift ≡ other.shift → frame.cycle ≡ other.cycle → ⊥) → IsFrame network (with_turns plan turns) cycles new other
   unfolding passage_of
   others_kept other before differ = record {
     stream = before.stream;
@@ -37,11 +41,13 @@ module _ (network : Network) (offsets : List ℕ) (cycles : ℕ) (run : BridgeRu
           | inl old ↦ before.unstarted k s past old
           | inr same ↦ differ (ap (λ (p : Passage). p.stream) same.0) (ap (λ (p : Passage). p.shift) same.0) (ap (λ (p : Passage). p.cycle) same.0)
         ];
-    ready = λ below. ready_kept (passage_of other) other.ready (before.ready below);
+    ready = λ below. let due = before.ready below in (due.0, ready_kept (passage_of other) due.0 due.1);
+    turn = λ below. turned_other plan.turn (onward (passage_of frame)) turn (passage_of other)
+        (λ same. differ (ap (λ (p : Passage). p.stream) same) (ap (λ (p : Passage). p.shift) same) (ap (λ (p : Passage). p.cycle) same)) ∙ before.turn below;
   }
 
   -- this one has started on one more hop
-  pub advances : IsFrame network offsets cycles new (advanced network frame time)
+  pub advances : IsFrame network (with_turns plan turns) cycles new (with_turn (advanced network frame time) turn)
   unfolding passage_of
   advances = record {
     stream = is.stream;
@@ -62,7 +68,18 @@ module _ (network : Network) (offsets : List ℕ) (cycles : ℕ) (run : BridgeRu
           | inl old ↦ is.unstarted k s (omega arith) old
           | inr same ↦ let hop : frame.hop ≡ k = ap (λ (p : Passage). p.hop) same.0 in omega arith
         ];
-    ready = λ below. inr (frame.hop, time, refl, Contains-push run.scheduled (record { passage = passage_of frame; time = time }), refl);
+    ready = λ below. (
+      (advanced network frame time).ready,
+      inr (
+        frame.hop,
+        time,
+        refl,
+        Contains-push run.scheduled
+            (record { passage = passage_of frame; time = time }),
+        refl,
+      ),
+    );
+    turn = λ below. turned_same plan.turn (onward (passage_of frame)) turn _ refl;
   }
 
 pub frame_set_same : (frames : List Frame) (number : ℕ) (frame : Frame) → number < length frames → frame_in (slice_set frames number frame) number ≡ frame
@@ -73,10 +90,17 @@ pub frame_set_other : (frames : List Frame) (number other : ℕ) (frame : Frame)
 unfolding frame_in
 frame_set_other frames number other frame differ = get_or-set_other frames number other frame _ (λ same. differ (sym same))
 
-module _ (network : Network) (offsets : List ℕ) (cycles : ℕ) (run : BridgeRun) (frames : List Frame) (tracked : IsTracked network offsets cycles run frames) (number time : ℕ) (below : number < length frames)
-    (waits : (frame_in frames number).hop < hop_count network (frame_in frames number).stream) where
+module _ (network : Network) (plan : Plan) (cycles : ℕ) (run : BridgeRun) (frames : List Frame) (tracked : IsTracked network plan cycles run frames)
+    (number time : ℕ) (below : number < length frames)
+    (waits : (frame_in frames number).hop < hop_count network (frame_in frames number).stream) (turn : Turn) where
+  abbrev moved : Frame
+  moved = with_turn (advanced network (frame_in frames number) time) turn
+
   abbrev pub set_frames : List Frame
-  set_frames = slice_set frames number (advanced network (frame_in frames number) time)
+  set_frames = slice_set frames number moved
+
+  abbrev next_turns : Passage → Turn
+  next_turns = turned plan.turn (onward (passage_of (frame_in frames number))) turn
 
   -- a frame keeps its stream, shift and cycle
   same_id : (other : ℕ) → ((frame_in set_frames other).stream ≡ (frame_in frames other).stream)
@@ -85,19 +109,22 @@ module _ (network : Network) (offsets : List ℕ) (cycles : ℕ) (run : BridgeRu
   same_id other = grind (arith, frame_set_same, frame_set_other)
 
   long : length set_frames ≡ length frames
-  long = length-set frames number (advanced network (frame_in frames number) time)
+  long = length-set frames number moved
 
-  pub tracked_next : IsTracked network offsets cycles (with_passage run (passage_of (frame_in frames number)) time) set_frames
+  pub tracked_next : IsTracked network (with_turns plan next_turns) cycles (with_passage run (passage_of (frame_in frames number)) time) set_frames
   tracked_next = record {
     each = λ other other_below. elim (cases_eq number other) [
       | inl same ↦
-          let is : frame_in set_frames other ≡ advanced network (frame_in frames number) time = ap (frame_in set_frames) (sym same) ∙ frame_set_same frames number (advanced network (frame_in frames number) time) below in
-          subst (IsFrame network offsets cycles (with_passage run (passage_of (frame_in frames number)) time)) (sym is) (advances network offsets cycles run time (frame_in frames number) waits (tracked.each number below))
+          let is : frame_in set_frames other ≡ moved = ap (frame_in set_frames) (sym same) ∙ frame_set_same frames number moved below in
+          subst (IsFrame network (with_turns plan next_turns) cycles (with_passage run (passage_of (frame_in frames number)) time)) (sym is)
+          (advances network plan cycles run time (frame_in frames number) waits (tracked.each number below) turn)
       | inr differ ↦
           let size = long in
           let other_old : other < length frames = omega arith in
-          subst (IsFrame network offsets cycles (with_passage run (passage_of (frame_in frames number)) time)) (sym (frame_set_other frames number other (advanced network (frame_in frames number) time) differ))
-          (others_kept network offsets cycles run time (frame_in frames number) waits (tracked.each number below) (frame_in frames other) (tracked.each other other_old)
+          subst (IsFrame network (with_turns plan next_turns) cycles (with_passage run (passage_of (frame_in frames number)) time))
+          (sym (frame_set_other frames number other moved differ))
+          (others_kept network plan cycles run time (frame_in frames number) waits (tracked.each number below) turn (frame_in frames other)
+          (tracked.each other other_old)
           (λ stream shift cycle. differ (tracked.distinct number other below other_old stream shift cycle)))
     ];
     complete = λ stream shift cycle stream_below sent cycle_below.

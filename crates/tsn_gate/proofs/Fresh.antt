@@ -1,5 +1,5 @@
 -- The frames with which a replay begins.
-use Rattle.std.proofs.Common.{◌≡◌, ℕ, zero, suc, ◌+◌, ◌-◌, ◌*◌, ◌^◌, ◌≤◌, ◌<◌, ◌⊎◌, List, ◌++◌, map, flat_map, length, get_or, All, AllPairs, Contains, refl, sym, ap, ◌∙◌, subst, arith, inl, inr, append-nil, mul-le-mul, add-mul}
+use Rattle.std.proofs.Common.{◌≡◌, ℕ, zero, suc, ◌+◌, ◌*◌, ◌^◌, ◌≤◌, ◌<◌, ◌⊎◌, List, ◌++◌, map, flat_map, length, get_or, All, AllPairs, Contains, refl, sym, ap, ◌∙◌, subst, arith, inl, inr, append-nil, mul-le-mul, add-mul}
 use Rattle.std.specs.List.{range_with_len}
 use Rattle.std.proofs.lemmas.Bool.{cases_lt, cases_order}
 use Rattle.std.proofs.lemmas.Grind.{flat_map-append}
@@ -11,18 +11,25 @@ use Rattle.std.proofs.Math.Seq.{get_or-append_right}
 use Rattle.tsn_model.specs.Network.{Network, IsWellFormed, stream_count}
 use Rattle.tsn_model.specs.Timing.{shifts, Sends}
 use Rattle.tsn_model.specs.Schedule.{offset_of}
+use Rattle.tsn_model.specs.Bridge.{Passage, IsReady}
 use Rattle.tsn_model.proofs.Lists.{All-flat_map, All-range, AllPairs-range, AllPairs-map, AllPairs-append, AllPairs-flat_map, Contains-nil, Contains-range, Contains-map, Contains-flat_map, range_more}
 use Rattle.tsn_model.proofs.Hops.{cycle_below}
 use Rattle.tsn_gate.specs.declared.queue.Frame.{Frame}
 use Rattle.tsn_gate.specs.Frames.{AreSpaced, frames_below}
 use Rattle.tsn_gate.specs.Queue.{AreInLine, frame_in, passage_of, fresh_frame}
 use Rattle.tsn_gate.specs.Feeding.{no_start}
-use Rattle.tsn_gate.specs.Progress.{IsTracked}
+use Rattle.tsn_gate.specs.Progress.{IsTurn, IsTracked, AreFirst, first_turn}
 use Rattle.tsn_gate.proofs.Counting.{length_pieces, below-more, below-zero}
 
 -- one more piece
 pub pieces_next : {X : Type 0} (f : ℕ → List X) (n : ℕ) → flat_map f (range_with_len 0 (n + 1)) ≡ flat_map f (range_with_len 0 n) ++ f n
 pieces_next f n = grind (arith, range_more, flat_map-append, append-nil)
+
+-- the turns of the passages that are ready before any start
+pub first_turns : (network : Network) (offsets : List ℕ) (slack : ℕ) (q : Passage) (due : ℕ) → IsReady network offsets no_start q due
+    → IsTurn slack due q.stream (first_turn network offsets q)
+first_turns network offsets slack q due (inl (first, at)) = record { upto = omega arith; since = omega arith; exact = λ none. refl }
+first_turns network offsets slack q due (inr (before, s, next, at, after)) = absurd (Contains-nil _ at)
 
 module _ (network : Network) (offsets : List ℕ) (cycles : ℕ) where
   -- a stream's frames of a cycle, those of all cycles, and those of the streams below n
@@ -46,6 +53,7 @@ module _ (network : Network) (offsets : List ℕ) (cycles : ℕ) where
     cycle : frame.cycle < cycles
     hop : frame.hop ≡ 0
     ready : frame.ready ≡ frame.cycle * network.cycle + offset_of offsets frame.stream + frame.shift
+    rank : frame.rank ≡ frame.stream
 
   all_fresh : All IsFresh frames
   all_fresh =
@@ -55,12 +63,12 @@ module _ (network : Network) (offsets : List ℕ) (cycles : ℕ) where
       (All-range (λ cycle. All IsFresh (cycle_frames stream cycle)) cycles 0
       (λ cycle from below. All-map IsFresh (fresh_frame stream cycle (cycle * network.cycle + offset_of offsets stream)) (shifts network stream)
       (All-weaker (Contains (shifts network stream)) (λ shift. IsFresh (fresh_frame stream cycle (cycle * network.cycle + offset_of offsets stream) shift))
-      (λ shift sent. record { stream = omega arith; sent = sent; cycle = omega arith; hop = refl; ready = refl })
+      (λ shift sent. record { stream = omega arith; sent = sent; cycle = omega arith; hop = refl; ready = refl; rank = refl })
       (shifts network stream) (All-contains_itself (shifts network stream)))))))
 
   fresh : (number : ℕ) → number < length frames → IsFresh (frame_in frames number)
   unfolding frame_in
-  fresh number below = all_fresh number (record { stream = 0; shift = 0; cycle = 0; hop = 0; ready = 0 }) below
+  fresh number below = all_fresh number (record { stream = 0; shift = 0; cycle = 0; hop = 0; ready = 0; rank = 0 }) below
 
   has : (stream shift cycle : ℕ) → stream < stream_count network → Sends network stream shift → cycle < cycles
       → Contains frames (fresh_frame stream cycle (cycle * network.cycle + offset_of offsets stream) shift)
@@ -107,7 +115,7 @@ module _ (network : Network) (offsets : List ℕ) (cycles : ℕ) where
   stands zero number below = absurd (omega arith)
   stands (suc n) number below =
       let one : n + 1 ≡ suc n = omega arith in
-      let none : Frame = record { stream = 0; shift = 0; cycle = 0; hop = 0; ready = 0 } in
+      let none : Frame = record { stream = 0; shift = 0; cycle = 0; hop = 0; ready = 0; rank = 0 } in
       let pieces = pieces_next stream_frames n in
       let last = upto_long n in
       let whole = upto_long (n + 1) in
@@ -171,7 +179,8 @@ module _ (network : Network) (offsets : List ℕ) (cycles : ℕ) where
 
     earlier : (a b : ℕ) → a < b → b < length frames → IsEarlier (frame_in frames a) (frame_in frames b)
     unfolding frame_in
-    earlier a b less below = in_order (stream_count network) (omega arith) a b (record { stream = 0; shift = 0; cycle = 0; hop = 0; ready = 0 }) less below
+    earlier a b less below = in_order (stream_count network) (omega arith) a b
+        (record { stream = 0; shift = 0; cycle = 0; hop = 0; ready = 0; rank = 0 }) less below
 
     -- of two frames of a stream the later one is ready later
     later : (a b : ℕ) → a < b → b < length frames → (frame_in frames a).stream ≡ (frame_in frames b).stream
@@ -189,21 +198,33 @@ module _ (network : Network) (offsets : List ℕ) (cycles : ℕ) where
         × ((frame_in frames number).cycle ≡ cycle)
     unfolding frame_in
     listed stream shift cycle (number, below, is) =
-        let at = get_or_default frames number (record { stream = 0; shift = 0; cycle = 0; hop = 0; ready = 0 })
+        let at = get_or_default frames number (record { stream = 0; shift = 0; cycle = 0; hop = 0; ready = 0; rank = 0 })
         (fresh_frame stream cycle (cycle * network.cycle + offset_of offsets stream) shift) below ∙ is in
         (number, below, ap (λ (f : Frame). f.stream) at, ap (λ (f : Frame). f.shift) at, ap (λ (f : Frame). f.cycle) at)
 
-    pub fresh_tracked : IsTracked network offsets cycles no_start frames
+    pub fresh_tracked : (slack : ℕ) → IsTracked network (record { offsets = offsets; slack = slack; turn = first_turn network offsets }) cycles no_start frames
     unfolding passage_of
-    fresh_tracked = record {
+    fresh_tracked slack = record {
       each = λ number below.
           let is = fresh number below in
           let first = is.hop in
           let ready = is.ready in
-          grind (arith, earlier, Contains-nil);
+          record {
+            stream = is.stream;
+            sent = is.sent;
+            cycle = is.cycle;
+            hop = omega arith;
+            started = λ k before. absurd (omega arith);
+            unstarted = λ k s past at. Contains-nil _ at;
+            ready = λ waits. ((frame_in frames number).ready, inl (first, ready));
+            turn = λ waits i. record { ready = sym ready i; rank = sym is.rank i };
+          };
       complete = λ stream shift cycle counted sent below. listed stream shift cycle (has stream shift cycle counted sent below);
       distinct = grind (arith, ready_together, cases_order, later);
     }
+
+    pub fresh_first : AreFirst network offsets 0 frames
+    fresh_first = record { hops = λ k below. (fresh k below).hop; planned = λ k since below. (fresh k below).ready }
 
     pub fresh_line : AreInLine network cycles frames
     fresh_line = record {

@@ -10,7 +10,7 @@ pub from_frame : (P : Frame → Type 0) (frames : List Frame) (number : ℕ) (d 
     → P (get_or frames number d)
 unfolding frame_in
 from_frame P frames number d below has = subst P (sym
-    (get_or_default frames number d (record { stream = 0; shift = 0; cycle = 0; hop = 0; ready = 0 }) below)) has
+    (get_or_default frames number d (record { stream = 0; shift = 0; cycle = 0; hop = 0; ready = 0; rank = 0 }) below)) has
 
 pub precedes_further : (a b c : Frame) → Precedes a b → Precedes b c → Precedes a c
 precedes_further a b c (inl less) (inl more) = inl (omega arith)

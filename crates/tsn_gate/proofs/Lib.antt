@@ -19,6 +19,7 @@ pub mod Exchanges
 pub mod Counting
 pub mod ListLemmas
 pub mod Spans
+pub mod Hastening
 pub mod Heads
 pub mod Listed
 pub mod Nexts

@@ -11,7 +11,7 @@ use Rattle.tsn_model.proofs.Lists.{Contains-map, AllPairs-append}
 use Rattle.tsn_model.proofs.Routes.{rate-pos}
 use Rattle.tsn_gate.specs.declared.feed.Waiting.{Waiting}
 use Rattle.tsn_gate.specs.Feeding.{waiting_at, FrameStarted, IsLine, IsFollowing}
-use Rattle.tsn_gate.specs.Progress.{IsRunSoFar, IsListSoFar}
+use Rattle.tsn_gate.specs.Progress.{Plan, IsRunSoFar, IsListSoFar}
 use Rattle.tsn_gate.proofs.Progress.{Extends, held_more}
 use Rattle.tsn_gate.proofs.BackgroundStarts.{with_background}
 
@@ -50,7 +50,8 @@ number_cases list a b a_below b_below same = grind (arith, cases_order)
 
 -- ---- the uses of wires by background frames
 
-module _ (network : Network) (formed : IsWellFormed network) (offsets : List ℕ) (gates : List LinkGates) (cycles : ℕ) (free : ℕ → ℕ) (now : ℕ) (run : BridgeRun) (so_far : IsRunSoFar network offsets gates cycles free now run) where
+module _ (network : Network) (formed : IsWellFormed network) (plan : Plan) (gates : List LinkGates) (cycles : ℕ) (free : ℕ → ℕ) (now : ℕ) (run : BridgeRun)
+    (so_far : IsRunSoFar network plan gates cycles free now run) where
   has_use : (begun : BackgroundStart) → Contains run.background begun → Contains (wire_uses network run) (background_use network begun)
   unfolding wire_uses
   has_use begun has = Contains-append_right (map (scheduled_use network) run.scheduled) (map (background_use network) run.background) (background_use network begun)
@@ -136,7 +137,7 @@ module _ (network : Network) (formed : IsWellFormed network) (offsets : List ℕ
         → IsHeld network gates new (frame_at list number).link t ⊎ ((earlier : ℕ) × IsBefore list earlier number × (FrameStartedBefore new earlier (t + 1) → ⊥))
     list_waits more less number t below wanted in_time when never = elim (cases_lt t now) [
       | inl past ↦ elim (steady.waits number t below wanted in_time (inl past) (λ begun. never (more number (t + 1) begun))) [
-        | inl held ↦ inl (held_more network offsets gates cycles run new now extends (frame_at list number).link t held)
+        | inl held ↦ inl (held_more network gates run new now extends (frame_at list number).link t held)
         | inr (earlier, before, unstarted) ↦ inr (earlier, before, λ begun. unstarted (less earlier (t + 1) (omega arith) begun))
       ]
       | inr present ↦ grind arith

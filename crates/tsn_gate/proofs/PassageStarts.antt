@@ -3,10 +3,12 @@ use Rattle.std.proofs.Common.{◌≡◌, ℕ, ◌+◌, ◌≤◌, ◌<◌, ◌�
 use Rattle.std.proofs.lemmas.List.Elements.{All-push, All-weaker, Contains-push, Contains-push_cases, Contains-append_left}
 use Rattle.std.proofs.lemmas.List.{map-append}
 use Rattle.tsn_model.specs.Network.{Network, IsWellFormed}
-use Rattle.tsn_model.specs.Bridge.{LinkGates, Passage, ScheduledStart, BridgeRun, link_of, length_of, scheduled_use, background_use, wire_uses, IsPassage, StartedAt, NotStartedBefore, IsReady, FitsAt, IsBlocked}
-use Rattle.tsn_model.proofs.Hops.{hop_delay-pos, passage_cases}
-use Rattle.tsn_gate.specs.Progress.{IsRunSoFar, IsGreedySoFar, IsDue}
-use Rattle.tsn_gate.proofs.Progress.{Extends, AddsUse, ready_more, waits_more, greedy_more, adds_use}
+use Rattle.tsn_model.specs.Bridge.{LinkGates, Passage, ScheduledStart, BridgeRun, link_of, length_of, scheduled_use, background_use, wire_uses, IsPassage, StartedAt, NotStartedBefore, IsReady, FitsAt}
+use Rattle.tsn_model.specs.Network.{route_link}
+use Rattle.tsn_model.specs.Timing.{hop_delay}
+use Rattle.tsn_model.proofs.Hops.{passage_cases}
+use Rattle.tsn_gate.specs.Progress.{Turn, Plan, with_turns, IsTurn, IsHeldUp, IsRunSoFar, IsGreedySoFar, IsDue}
+use Rattle.tsn_gate.proofs.Progress.{Extends, AddsUse, ready_more, goes_more, waits_more, greedy_more, adds_use}
 
 -- the run with one more start, of a passage or of a background frame
 abbrev pub with_passage : BridgeRun → Passage → ℕ → BridgeRun
@@ -28,14 +30,52 @@ uses_split : (network : Network) (run : BridgeRun) → wire_uses network run ≡
 unfolding wire_uses
 uses_split network run = refl
 
-module _ (network : Network) (formed : IsWellFormed network) (offsets : List ℕ) (gates : List LinkGates) (cycles : ℕ) (free after : ℕ → ℕ) (now : ℕ) (run : BridgeRun)
-    (so_far : IsRunSoFar network offsets gates cycles free now run) (p : Passage) (ready : ℕ) (due : IsDue network offsets gates cycles free now run p ready)
+-- ---- one more turn
+
+pick : {X : Type 0} {A : Type 0} → A ⊎ (A → ⊥) → X → X → X
+pick (inl holds) x y = x
+pick (inr fails) x y = y
+
+pick_yes : {X : Type 0} {A : Type 0} (cases : A ⊎ (A → ⊥)) (x y : X) → A → pick cases x y ≡ x
+unfolding pick
+pick_yes (inl holds) x y is = refl
+pick_yes (inr fails) x y is = absurd (fails is)
+
+pick_no : {X : Type 0} {A : Type 0} (cases : A ⊎ (A → ⊥)) (x y : X) → (A → ⊥) → pick cases x y ≡ y
+unfolding pick
+pick_no (inl holds) x y never = absurd (never holds)
+pick_no (inr fails) x y never = refl
+
+-- the turns with one of a passage
+pub turned : (Passage → Turn) → Passage → Turn → Passage → Turn
+turned turn p new q = pick (passage_cases p q) new (turn q)
+
+pub turned_same : (turn : Passage → Turn) (p : Passage) (new : Turn) (q : Passage) → p ≡ q → turned turn p new q ≡ new
+unfolding turned
+turned_same turn p new q is = pick_yes (passage_cases p q) new (turn q) is
+
+pub turned_other : (turn : Passage → Turn) (p : Passage) (new : Turn) (q : Passage) → (p ≡ q → ⊥) → turned turn p new q ≡ turn q
+unfolding turned
+turned_other turn p new q differ = pick_no (passage_cases p q) new (turn q) differ
+
+-- the same frame on its next hop
+abbrev pub onward : Passage → Passage
+onward p = record p { hop = p.hop + 1 }
+
+module _ (network : Network) (formed : IsWellFormed network) (plan : Plan) (gates : List LinkGates) (cycles : ℕ) (free after : ℕ → ℕ) (now : ℕ)
+    (run : BridgeRun)
+    (so_far : IsRunSoFar network plan gates cycles free now run) (p : Passage) (ready : ℕ) (due : IsDue network plan gates cycles free now run p ready)
+    (next : Turn) (is_next : IsTurn plan.slack (now + hop_delay network p.stream (route_link network p.stream p.hop)) p.stream next) (later : now < next.ready)
     (here : after (link_of network p) ≡ now + length_of network p) (elsewhere : (m : ℕ) → (m ≡ link_of network p → ⊥) → after m ≡ free m) where
   abbrev new : BridgeRun
   new = with_passage run p now
 
+  abbrev turns : Passage → Turn
+  turns = turned plan.turn (onward p) next
+
   added : AddsUse network cycles after now run new
-  added = adds_use network offsets gates cycles free after now run new so_far (link_of network p) (now + length_of network p) (map (scheduled_use network) run.scheduled)
+  added = adds_use network plan gates cycles free after now run new so_far (link_of network p) (now + length_of network p)
+      (map (scheduled_use network) run.scheduled)
       (map (background_use network) run.background) (uses_split network run) (uses_with_passage network run p now) due.wire due.in_time (omega arith) here elsewhere
 
   pub passage_extends : Extends network run new now
@@ -45,12 +85,48 @@ module _ (network : Network) (formed : IsWellFormed network) (offsets : List ℕ
     fresh = λ q s at. elim (new_start run p now q s at) [ inl old ↦ inl old | inr is ↦ let same = is.1 in inr (omega arith) ];
   }
 
-  -- a passage that is ready by the new start is ready later
-  passage_ready_less : (q : Passage) (t : ℕ) → IsReady network offsets new q t → IsReady network offsets run q t ⊎ (now < t)
-  passage_ready_less q t (inl first) = inl (inl first)
-  passage_ready_less q t (inr (before, s, next, at, after_it)) = elim (new_start run p now (record q { hop = before }) s at) [
-    | inl old ↦ inl (inr (before, s, next, old, after_it))
-    | inr (is, time) ↦ grind (arith, hop_delay-pos)
+  -- the frame wasn't ready for its next hop before
+  pub turns_kept : (q : Passage) (t : ℕ) → IsReady network plan.offsets run q t → turns q ≡ plan.turn q
+  turns_kept q t is_ready = turned_other plan.turn (onward p) next q (λ is. not_onward q is is_ready) where
+    not_onward : (q : Passage) → onward p ≡ q → IsReady network plan.offsets run q t → ⊥
+    not_onward q is (inl (first, at)) = let hop : p.hop + 1 ≡ q.hop = ap (λ (x : Passage). x.hop) is in omega arith
+    not_onward q is (inr (before, s, follows, at, after_it)) =
+        let hop : p.hop + 1 ≡ q.hop = ap (λ (x : Passage). x.hop) is in
+        let same : before ≡ p.hop = omega arith in
+        let same_passage : record q { hop = before } ≡ p = λ i. record {
+          stream = (sym is i).stream;
+          shift = (sym is i).shift;
+          cycle =
+              (sym is i).cycle;
+          hop = same i;
+        } in
+        due.unstarted s (subst (λ x. StartedAt run x s) same_passage at)
+
+  -- a passage that is ready by the new start is the frame's next one
+  newly_ready : (q : Passage) (t : ℕ) → IsReady network plan.offsets new q t
+      → IsReady network plan.offsets run q t ⊎ ((onward p ≡ q) × (now + hop_delay network p.stream (route_link network p.stream p.hop) ≡ t))
+  newly_ready q t (inl first) = inl (inl first)
+  newly_ready q t (inr (before, s, follows, at, after_it)) = elim (new_start run p now (record q { hop = before }) s at) [
+    | inl old ↦ inl (inr (before, s, follows, old, after_it))
+    | inr (is, time) ↦
+        let hop : p.hop ≡ before = ap (λ (x : Passage). x.hop) is in
+        let hops : p.hop + 1 ≡ q.hop = omega arith in
+        let delay : hop_delay network p.stream (route_link network p.stream p.hop) ≡ hop_delay network q.stream (route_link network q.stream before) =
+        ap (λ (x : Passage). hop_delay network x.stream (route_link network x.stream x.hop)) is in
+        inr (λ i. record { stream = (is i).stream; shift = (is i).shift; cycle = (is i).cycle; hop = hops i }, omega arith)
+  ]
+
+  passage_ready_less : (q : Passage) (t : ℕ) → IsReady network plan.offsets new q t → IsReady network plan.offsets run q t ⊎ (now < (turns q).ready)
+  passage_ready_less q t is_ready = elim (newly_ready q t is_ready) [
+    | inl old ↦ inl old
+    | inr (is, at) ↦ inr (subst (λ (x : Turn). now < x.ready) (sym (turned_same plan.turn (onward p) next q is)) later)
+  ]
+
+  passage_turns : (q : Passage) (t : ℕ) → IsPassage network cycles q → IsReady network plan.offsets new q t → IsTurn plan.slack t q.stream (turns q)
+  passage_turns q t passage is_ready = elim (newly_ready q t is_ready) [
+    | inl old ↦ subst (IsTurn plan.slack t q.stream) (sym (turns_kept q t old)) (so_far.turns q t passage old)
+    | inr (is, at) ↦ subst (IsTurn plan.slack t q.stream) (sym (turned_same plan.turn (onward p) next q is))
+        (subst (λ i. IsTurn plan.slack t i next) (ap (λ (x : Passage). x.stream) is) (subst (λ n. IsTurn plan.slack n p.stream next) at is_next))
   ]
 
   passage_once : (q : Passage) (s t : ℕ) → StartedAt new q s → StartedAt new q t → s ≡ t
@@ -65,24 +141,31 @@ module _ (network : Network) (formed : IsWellFormed network) (offsets : List ℕ
     ]
   ]
 
-  passage_others : (q : Passage) (q_ready : ℕ) → IsPassage network cycles q → link_of network q ≡ link_of network p → IsReady network offsets run q q_ready → q_ready ≤ now → NotStartedBefore new q (now + 1)
-      → IsBlocked network offsets gates cycles new q q_ready now
-  passage_others q q_ready passage same is_ready since none = elim (passage_cases q p) [
+  abbrev more : (q : Passage) (t : ℕ) → IsReady network plan.offsets run q t → IsReady network plan.offsets new q t
+  more = ready_more network plan turns gates cycles run new now passage_extends turns_kept
+
+  passage_others : (q : Passage) (q_due : ℕ) → IsPassage network cycles q → link_of network q ≡ link_of network p → IsReady network plan.offsets run q q_due
+      → (plan.turn q).ready ≤ now
+      → NotStartedBefore new q (now + 1) → IsHeldUp network plan.offsets gates cycles turns new q now
+  passage_others q q_due passage same is_ready since none = elim (passage_cases q p) [
     | inl is ↦
         let late = none now (subst (λ x. StartedAt new x now) (sym is) (Contains-push run.scheduled (record { passage = p; time = now }))) in
         absurd (omega arith)
     | inr differ ↦
-        let order = due.first q q_ready passage same is_ready (λ s at. none s (passage_extends.starts q s at)) differ in
+        let order = due.first q q_due passage same is_ready (λ s at. none s (passage_extends.starts q s at)) differ in
         inr (inr (
           p,
           ready,
           due.passage_is,
-          record { same_link = sym same; ready = ready_more network offsets gates cycles run new now passage_extends p ready due.ready_at; order = order },
+          (λ is. differ (sym is)),
+          sym same,
+          more p ready due.ready_at,
+          goes_more network plan turns gates cycles run new now passage_extends turns_kept p q ready q_due due.ready_at is_ready order,
           λ s at. elim (new_start run p now p s at) [ inl old ↦ absurd (due.unstarted s old) | inr (is, time) ↦ omega arith ],
         ))
   ]
 
-  pub passage_begins : IsRunSoFar network offsets gates cycles after now new
+  pub passage_begins : IsRunSoFar network (with_turns plan turns) gates cycles after now new
   passage_begins = record {
     wires_shared = added.shared;
     uses_begin = added.begin;
@@ -92,19 +175,26 @@ module _ (network : Network) (formed : IsWellFormed network) (offsets : List ℕ
     background_open = so_far.background_open;
     passages = All-push (λ (begun : ScheduledStart). IsPassage network cycles begun.passage) run.scheduled (record { passage = p; time = now }) so_far.passages due.passage_is;
     once = passage_once;
-    ready = All-push (λ (begun : ScheduledStart). (t : ℕ) × IsReady network offsets new begun.passage t × (t ≤ begun.time)) run.scheduled (record { passage = p; time = now })
-        (All-weaker (λ (begun : ScheduledStart). (t : ℕ) × IsReady network offsets run begun.passage t × (t ≤ begun.time)) (λ (begun : ScheduledStart). (t : ℕ) × IsReady network offsets new begun.passage t × (t ≤ begun.time))
-        (λ begun found. (found.0, ready_more network offsets gates cycles run new now passage_extends begun.passage found.0 found.1, found.2)) run.scheduled so_far.ready)
-        (ready, ready_more network offsets gates cycles run new now passage_extends p ready due.ready_at, due.since);
+    turns = passage_turns;
+    begun_ready = All-push (λ (begun : ScheduledStart). (t : ℕ) × IsReady network plan.offsets new begun.passage t
+        × ((turns begun.passage).ready ≤ begun.time)) run.scheduled (record { passage = p; time = now })
+        (All-weaker (λ (begun : ScheduledStart). (t : ℕ) × IsReady network plan.offsets run begun.passage t × ((plan.turn begun.passage).ready ≤ begun.time))
+        (λ (begun : ScheduledStart). (t : ℕ) × IsReady network plan.offsets new begun.passage t × ((turns begun.passage).ready ≤ begun.time))
+        (λ begun found. (
+          found.0,
+          more begun.passage found.0 found.1,
+          subst (λ (x : Turn). x.ready ≤ begun.time)
+              (sym (turns_kept begun.passage found.0 found.1)) found.2,
+        )) run.scheduled so_far.begun_ready)
+        (ready, more p ready due.ready_at, subst (λ (x : Turn). x.ready ≤ now) (sym (turns_kept p ready due.ready_at)) due.since);
     fits = All-push (λ (begun : ScheduledStart). FitsAt network gates begun.passage begun.time) run.scheduled (record { passage = p; time = now }) so_far.fits due.fits;
-    waits = waits_more network offsets gates cycles run new now passage_extends free after so_far (link_of network p) passage_others passage_ready_less elsewhere added.busy added.begin;
+    waits = waits_more network plan turns gates cycles run new now passage_extends turns_kept free after so_far
+        (link_of network p) passage_others passage_ready_less elsewhere added.busy added.begin;
   }
 
   pub passage_greedy : IsGreedySoFar network gates cycles free now run → IsGreedySoFar network gates cycles after now new
   passage_greedy steady = record {
     greatest = steady.greatest;
-    held = λ t in_time k d below when.
-        let item = get_or gates k d in
-        greedy_more network offsets gates cycles run new now passage_extends free after so_far (link_of network p) elsewhere added.busy
-        (get_or gates k d).link t (steady.held t in_time k d below) when;
+    held = λ t in_time k d below when. greedy_more network gates run new now passage_extends free after added.busy (get_or gates k d).link t
+        (steady.held t in_time k d below) when;
   }

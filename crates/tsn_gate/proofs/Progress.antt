@@ -4,9 +4,10 @@ use Rattle.std.specs.List.{AllPairs}
 use Rattle.std.proofs.lemmas.Bool.{cases_lt, cases_eq}
 use Rattle.std.proofs.lemmas.List.Elements.{All-contains, All-weaker, Contains-push, Contains-append_left, Contains-append_right, Contains-append_cases}
 use Rattle.tsn_model.specs.Network.{Network}
-use Rattle.tsn_model.specs.Bridge.{LinkGates, BackgroundOpen, Passage, BridgeRun, WireUse, link_of, wire_uses, AreDisjoint, IsPassage, StartedAt, NotStartedBefore, IsReady, IsBlocked, IsBridgeRun, IsTaken, IsHeld, IsFed}
+use Rattle.tsn_model.specs.Bridge.{LinkGates, BackgroundOpen, Passage, BridgeRun, WireUse, link_of, wire_uses, AreDisjoint, IsPassage, StartedAt, NotStartedBefore, IsReady, IsTaken, IsHeld, IsFed}
 use Rattle.tsn_model.specs.Bridge.Background.{greedy}
-use Rattle.tsn_gate.specs.Progress.{IsRunSoFar, IsGreedySoFar, IsQuiet}
+use Rattle.tsn_model.specs.Early.{IsDelayed, IsEarlyRun}
+use Rattle.tsn_gate.specs.Progress.{Turn, Goes, Plan, IsHeldUp, IsRunSoFar, IsGreedySoFar, IsQuiet}
 use Rattle.tsn_gate.proofs.ListLemmas.{All-insert, AllPairs-insert}
 
 -- one run has what another has, and more starts, none of them before an instant
@@ -15,25 +16,7 @@ pub record Extends (network : Network) (old new : BridgeRun) (now : ℕ) : Type 
   pub starts : (p : Passage) (s : ℕ) → StartedAt old p s → StartedAt new p s
   pub fresh : (p : Passage) (s : ℕ) → StartedAt new p s → StartedAt old p s ⊎ (now ≤ s)
 
-module _ (network : Network) (offsets : List ℕ) (gates : List LinkGates) (cycles : ℕ) (old new : BridgeRun) (now : ℕ) (extends : Extends network old new now) where
-  pub ready_more : (p : Passage) (t : ℕ) → IsReady network offsets old p t → IsReady network offsets new p t
-  ready_more p t (inl first) = inl first
-  ready_more p t (inr (before, s, next, at, after)) = inr (before, s, next, extends.starts (record p { hop = before }) s at, after)
-
-  pub blocked_more : (p : Passage) (ready t : ℕ) → t ≤ now → IsBlocked network offsets gates cycles old p ready t → IsBlocked network offsets gates cycles new p ready t
-  blocked_more p ready t upto (inl closed) = inl closed
-  blocked_more p ready t upto (inr (inl (k, wire, below, is, facts))) =
-      let has = extends.uses wire (k, below, is) in
-      inr (inl (has.0, wire, has.1, has.2, facts))
-  blocked_more p ready t upto (inr (inr (earlier, earlier_ready, passage, queued, not_before))) =
-      inr (inr (
-        earlier,
-        earlier_ready,
-        passage,
-        record { same_link = queued.same_link; ready = ready_more earlier earlier_ready queued.ready; order = queued.order },
-        λ s at. elim (extends.fresh earlier s at) [ inl before ↦ not_before s before | inr late ↦ omega arith ],
-      ))
-
+module _ (network : Network) (gates : List LinkGates) (old new : BridgeRun) (now : ℕ) (extends : Extends network old new now) where
   pub taken_more : (link t : ℕ) → IsTaken network old link t → IsTaken network new link t
   taken_more link t (k, wire, below, is, facts) = let has = extends.uses wire (k, below, is) in (has.0, wire, has.1, has.2, facts)
 
@@ -41,52 +24,86 @@ module _ (network : Network) (offsets : List ℕ) (gates : List LinkGates) (cycl
   held_more link t (inl closed) = inl closed
   held_more link t (inr taken) = inr (taken_more link t taken)
 
-  pub not_started_less : (p : Passage) (t : ℕ) → NotStartedBefore new p t → NotStartedBefore old p t
-  not_started_less p t none s at = none s (extends.starts p s at)
-
-  -- what waits is blocked as before, on every link but the one with the start, where it is blocked at that instant too
-  module _ (free after : ℕ → ℕ) (so_far : IsRunSoFar network offsets gates cycles free now old) (link : ℕ)
-      (others : (q : Passage) (ready : ℕ) → IsPassage network cycles q → link_of network q ≡ link → IsReady network offsets old q ready → ready ≤ now → NotStartedBefore new q (now + 1)
-      → IsBlocked network offsets gates cycles new q ready now)
-      (ready_less : (q : Passage) (ready : ℕ) → IsReady network offsets new q ready → IsReady network offsets old q ready ⊎ (now < ready))
-      (elsewhere : (m : ℕ) → (m ≡ link → ⊥) → after m ≡ free m)
-      (busy : (m t : ℕ) → now ≤ t → t < after m → IsTaken network new m t)
-      (begin : All (λ (wire : WireUse). (wire.from ≤ now) × (wire.from < cycles * network.cycle)) (wire_uses network new)) where
-    pub waits_more : (q : Passage) (ready t : ℕ) → IsPassage network cycles q → IsReady network offsets new q ready → ready ≤ t → t < cycles * network.cycle
-        → (t < now) ⊎ (t < after (link_of network q)) → NotStartedBefore new q (t + 1) → IsBlocked network offsets gates cycles new q ready t
-    waits_more q ready t passage is_ready since in_time when none = elim (cases_lt now t) [
-      | inl later ↦
-          let soon : t < after (link_of network q) = elim when [ inl past ↦ absurd (omega arith) | inr soon ↦ soon ] in
-          let taken = busy (link_of network q) t (omega arith) soon in
-          let from = All-contains (λ (wire : WireUse). (wire.from ≤ now) × (wire.from < cycles * network.cycle)) (wire_uses network new) taken.1 begin (taken.0, taken.2, taken.3) in
-          inr (inl (taken.0, taken.1, taken.2, taken.3, (taken.4.0, omega arith, taken.4.2)))
-      | inr upto ↦ elim (ready_less q ready is_ready) [
-        | inr late ↦ absurd (omega arith)
-        | inl before ↦ elim (cases_lt t now) [
-          | inl past ↦ blocked_more q ready t upto (so_far.waits q ready t passage before since in_time (inl past) (not_started_less q (t + 1) none))
-          | inr not_past ↦
-              let soon : t < after (link_of network q) = elim when [ inl past ↦ absurd (omega arith) | inr soon ↦ soon ] in
-              elim (cases_eq (link_of network q) link) [
-                | inl same ↦
-                    let here : now ≡ t = omega arith in
-                    subst (λ u. IsBlocked network offsets gates cycles new q ready u) here
-                    (others q ready passage same before (omega arith) (subst (λ u. NotStartedBefore new q (u + 1)) (sym here) none))
-                | inr differ ↦
-                    let still : t < free (link_of network q) = subst (λ n. t < n) (elsewhere (link_of network q) differ) soon in
-                    blocked_more q ready t upto (so_far.waits q ready t passage before since in_time (inr still) (not_started_less q (t + 1) none))
-              ]
-        ]
-      ]
-    ]
-
-  -- so is what is held of the background
-  module _ (free after : ℕ → ℕ) (so_far : IsRunSoFar network offsets gates cycles free now old) (link : ℕ) (elsewhere : (m : ℕ) → (m ≡ link → ⊥) → after m ≡ free m)
-      (busy : (m t : ℕ) → now ≤ t → t < after m → IsTaken network new m t) where
+  -- what is held of the background stays so
+  module _ (free after : ℕ → ℕ) (busy : (m t : ℕ) → now ≤ t → t < after m → IsTaken network new m t) where
     pub greedy_more : (m t : ℕ) → ((t < now) ⊎ (t < free m) → IsHeld network gates old m t) → (t < now) ⊎ (t < after m) → IsHeld network gates new m t
     greedy_more m t before (inl past) = held_more m t (before (inl past))
     greedy_more m t before (inr soon) = elim (cases_lt t now) [
       | inl past ↦ held_more m t (before (inl past))
       | inr present ↦ inr (busy m t present soon)
+    ]
+
+-- the turns of what was ready before stay
+module _ (network : Network) (plan : Plan) (turn : Passage → Turn) (gates : List LinkGates) (cycles : ℕ) (old new : BridgeRun) (now : ℕ)
+    (extends : Extends network old new now)
+    (same : (q : Passage) (due : ℕ) → IsReady network plan.offsets old q due → turn q ≡ plan.turn q) where
+  pub ready_more : (p : Passage) (t : ℕ) → IsReady network plan.offsets old p t → IsReady network plan.offsets new p t
+  ready_more p t (inl first) = inl first
+  ready_more p t (inr (before, s, next, at, after)) = inr (before, s, next, extends.starts (record p { hop = before }) s at, after)
+
+  pub goes_more : (p q : Passage) (p_due q_due : ℕ) → IsReady network plan.offsets old p p_due → IsReady network plan.offsets old q q_due
+      → Goes (plan.turn p) (plan.turn q) → Goes (turn p) (turn q)
+  goes_more p q p_due q_due p_ready q_ready goes = subst (λ x. Goes x (turn q)) (sym (same p p_due p_ready))
+      (subst (Goes (plan.turn p)) (sym (same q q_due q_ready)) goes)
+
+  pub blocked_more : (p : Passage) (due t : ℕ) → IsReady network plan.offsets old p due → t ≤ now → IsHeldUp network plan.offsets gates cycles plan.turn old p t
+      → IsHeldUp network plan.offsets gates cycles turn new p t
+  blocked_more p due t is_ready upto (inl closed) = inl closed
+  blocked_more p due t is_ready upto (inr (inl (k, wire, below, is, facts))) =
+      let has = extends.uses wire (k, below, is) in
+      inr (inl (has.0, wire, has.1, has.2, facts))
+  blocked_more p due t is_ready upto (inr (inr (other, other_due, passage, differ, on, other_ready, goes, not_before))) =
+      inr (inr (
+        other,
+        other_due,
+        passage,
+        differ,
+        on,
+        ready_more other other_due other_ready,
+        goes_more other p other_due due other_ready is_ready goes,
+        λ s at. elim (extends.fresh other s at) [ inl before ↦ not_before s before | inr late ↦ omega arith ],
+      ))
+
+  pub not_started_less : (p : Passage) (t : ℕ) → NotStartedBefore new p t → NotStartedBefore old p t
+  not_started_less p t none s at = none s (extends.starts p s at)
+
+  -- what waits is blocked as before, on every link but the one with the start, where it is blocked at that instant too
+  module _ (free after : ℕ → ℕ) (so_far : IsRunSoFar network plan gates cycles free now old) (link : ℕ)
+      (others : (q : Passage) (due : ℕ) → IsPassage network cycles q → link_of network q ≡ link → IsReady network plan.offsets old q due
+      → (plan.turn q).ready ≤ now → NotStartedBefore new q (now + 1)
+      → IsHeldUp network plan.offsets gates cycles turn new q now)
+      (ready_less : (q : Passage) (due : ℕ) → IsReady network plan.offsets new q due → IsReady network plan.offsets old q due ⊎ (now < (turn q).ready))
+      (elsewhere : (m : ℕ) → (m ≡ link → ⊥) → after m ≡ free m)
+      (busy : (m t : ℕ) → now ≤ t → t < after m → IsTaken network new m t)
+      (begin : All (λ (wire : WireUse). (wire.from ≤ now) × (wire.from < cycles * network.cycle)) (wire_uses network new)) where
+    pub waits_more : (q : Passage) (due t : ℕ) → IsPassage network cycles q → IsReady network plan.offsets new q due → (turn q).ready ≤ t
+        → t < cycles * network.cycle
+        → (t < now) ⊎ (t < after (link_of network q)) → NotStartedBefore new q (t + 1) → IsHeldUp network plan.offsets gates cycles turn new q t
+    waits_more q due t passage is_ready since in_time when none = elim (cases_lt now t) [
+      | inl later ↦
+          let soon : t < after (link_of network q) = elim when [ inl past ↦ absurd (omega arith) | inr soon ↦ soon ] in
+          let taken = busy (link_of network q) t (omega arith) soon in
+          let from = All-contains (λ (wire : WireUse). (wire.from ≤ now) × (wire.from < cycles * network.cycle)) (wire_uses network new) taken.1 begin (taken.0, taken.2, taken.3) in
+          inr (inl (taken.0, taken.1, taken.2, taken.3, (taken.4.0, omega arith, taken.4.2)))
+      | inr upto ↦ elim (ready_less q due is_ready) [
+        | inr late ↦ absurd (omega arith)
+        | inl before ↦
+            let since_old : (plan.turn q).ready ≤ t = subst (λ (x : Turn). x.ready ≤ t) (same q due before) since in
+            elim (cases_lt t now) [
+              | inl past ↦ blocked_more q due t before upto (so_far.waits q due t passage before since_old in_time (inl past) (not_started_less q (t + 1) none))
+              | inr not_past ↦
+                  let soon : t < after (link_of network q) = elim when [ inl past ↦ absurd (omega arith) | inr soon ↦ soon ] in
+                  elim (cases_eq (link_of network q) link) [
+                    | inl here_too ↦
+                        let here : now ≡ t = omega arith in
+                        subst (λ u. IsHeldUp network plan.offsets gates cycles turn new q u) here
+                        (others q due passage here_too before (omega arith) (subst (λ u. NotStartedBefore new q (u + 1)) (sym here) none))
+                    | inr differ ↦
+                        let still : t < free (link_of network q) = subst (λ n. t < n) (elsewhere (link_of network q) differ) soon in
+                        blocked_more q due t before upto (so_far.waits q due t passage before since_old in_time (inr still) (not_started_less q (t + 1) none))
+                  ]
+            ]
+      ]
     ]
 
 -- ---- one more use of a wire that is free
@@ -98,7 +115,8 @@ pub record AddsUse (network : Network) (cycles : ℕ) (after : ℕ → ℕ) (now
   pub shared : AllPairs AreDisjoint (wire_uses network new)
   pub busy : (m t : ℕ) → now ≤ t → t < after m → IsTaken network new m t
 
-module _ (network : Network) (offsets : List ℕ) (gates : List LinkGates) (cycles : ℕ) (free after : ℕ → ℕ) (now : ℕ) (old new : BridgeRun) (so_far : IsRunSoFar network offsets gates cycles free now old)
+module _ (network : Network) (plan : Plan) (gates : List LinkGates) (cycles : ℕ) (free after : ℕ → ℕ) (now : ℕ) (old new : BridgeRun)
+    (so_far : IsRunSoFar network plan gates cycles free now old)
     (link until : ℕ) (xs ys : List WireUse) (old_is : wire_uses network old ≡ xs ++ ys) (new_is : wire_uses network new ≡ (xs ++ (record { link = link; from = now; until = until }) ∷ []) ++ ys)
     (is_free : free link ≤ now) (in_time : now < cycles * network.cycle) (forward : now ≤ until) (here : after link ≡ until)
     (elsewhere : (m : ℕ) → (m ≡ link → ⊥) → after m ≡ free m) where
@@ -159,10 +177,10 @@ module _ (network : Network) (offsets : List ℕ) (gates : List LinkGates) (cycl
 
 -- ---- time that passes
 
-module _ (network : Network) (offsets : List ℕ) (gates : List LinkGates) (cycles : ℕ) (free : ℕ → ℕ) (now later : ℕ) (run : BridgeRun) (forward : now ≤ later) where
-  pub time_passes : IsRunSoFar network offsets gates cycles free now run
-      → ((t : ℕ) → now ≤ t → t < later → t < cycles * network.cycle → (link : ℕ) → free link ≤ t → IsQuiet network offsets gates cycles t run link)
-      → IsRunSoFar network offsets gates cycles free later run
+module _ (network : Network) (plan : Plan) (gates : List LinkGates) (cycles : ℕ) (free : ℕ → ℕ) (now later : ℕ) (run : BridgeRun) (forward : now ≤ later) where
+  pub time_passes : IsRunSoFar network plan gates cycles free now run
+      → ((t : ℕ) → now ≤ t → t < later → t < cycles * network.cycle → (link : ℕ) → free link ≤ t → IsQuiet network plan gates cycles t run link)
+      → IsRunSoFar network plan gates cycles free later run
   time_passes so_far quiet = record {
     wires_shared = so_far.wires_shared;
     uses_begin = omega arith;
@@ -172,7 +190,8 @@ module _ (network : Network) (offsets : List ℕ) (gates : List LinkGates) (cycl
     background_open = so_far.background_open;
     passages = so_far.passages;
     once = so_far.once;
-    ready = so_far.ready;
+    turns = so_far.turns;
+    begun_ready = so_far.begun_ready;
     fits = so_far.fits;
     waits = λ q ready t passage is_ready since in_time when none. elim (cases_lt t now) [
       | inl past ↦ so_far.waits q ready t passage is_ready since in_time (inl past) none
@@ -203,18 +222,30 @@ module _ (network : Network) (offsets : List ℕ) (gates : List LinkGates) (cycl
 
 -- ---- the end
 
-pub run_ends : (network : Network) (offsets : List ℕ) (gates : List LinkGates) (cycles : ℕ) (free : ℕ → ℕ) (run : BridgeRun) → IsRunSoFar network offsets gates cycles free (cycles * network.cycle) run
-    → IsBridgeRun network offsets gates cycles run
-run_ends network offsets gates cycles free run so_far = record {
+-- a passage that is held up is delayed
+held_up_delays : (network : Network) (plan : Plan) (gates : List LinkGates) (cycles : ℕ) (run : BridgeRun) (q : Passage) (t : ℕ)
+    → IsHeldUp network plan.offsets gates cycles plan.turn run q t
+    → IsDelayed network plan.offsets gates cycles (λ p. (plan.turn p).ready) run q t
+held_up_delays network plan gates cycles run q t (inl closed) = inl closed
+held_up_delays network plan gates cycles run q t (inr (inl wire)) = inr (inl wire)
+held_up_delays network plan gates cycles run q t (inr (inr (other, due, passage, differ, on, is_ready, goes, not_before))) =
+    inr (inr (other, due, passage, differ, on, is_ready, elim goes [ inl less ↦ omega arith | inr same ↦ let equal = same.0 in omega arith ], not_before))
+
+pub run_ends : (network : Network) (plan : Plan) (gates : List LinkGates) (cycles : ℕ) (free : ℕ → ℕ) (run : BridgeRun)
+    → IsRunSoFar network plan gates cycles free (cycles * network.cycle) run
+    → IsEarlyRun network plan.offsets gates cycles (λ link. plan.slack) (λ p. (plan.turn p).ready) run
+run_ends network plan gates cycles free run so_far = record {
   wires_shared = so_far.wires_shared;
   uses_begin = omega arith;
   background_length = so_far.background_length;
   background_open = so_far.background_open;
   passages = so_far.passages;
   once = so_far.once;
-  ready = so_far.ready;
+  early = λ q due passage is_ready. let turn = so_far.turns q due passage is_ready in (turn.upto, turn.since);
+  begun_ready = so_far.begun_ready;
   fits = so_far.fits;
-  waits = λ q ready t passage is_ready since in_time none. so_far.waits q ready t passage is_ready since in_time (inl in_time) none;
+  waits = λ q due t passage is_ready since in_time none. held_up_delays network plan gates cycles run q t
+      (so_far.waits q due t passage is_ready since in_time (inl in_time) none);
 }
 
 pub greedy_ends : (network : Network) (gates : List LinkGates) (cycles : ℕ) (free : ℕ → ℕ) (run : BridgeRun) → IsGreedySoFar network gates cycles free (cycles * network.cycle) run

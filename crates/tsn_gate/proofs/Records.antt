@@ -40,11 +40,14 @@ module _ (keeps : Bool) (run starts : BridgeRun) (is : IsRecord keeps run starts
   }
 
 pub replayed_from : (setting : Setting) (starts : BridgeRun) (rows : List Row) → AreStarts setting starts → AreRows setting.network setting.offsets setting.cycles starts rows
-    → IsReplayed setting.keeps setting.network setting.offsets setting.gates setting.cycles setting.background (record { run = starts; rows = rows })
+    → IsReplayed setting.keeps setting.slack setting.network setting.offsets setting.gates setting.cycles setting.background
+    (record { run = starts; rows = rows })
 replayed_from setting starts rows are filled = record {
   made = are.made;
   records = are.records;
-  run = are.run;
+  ready = are.ready;
+  early = are.early;
+  exact = are.exact;
   fed = are.fed;
   rows = rows_made setting.keeps are.made starts are.records setting.network setting.offsets setting.cycles rows filled;
 }

@@ -1,5 +1,5 @@
 -- The table of starts, and the rows that it gives.
-use Rattle.std.proofs.Common.{◌≡◌, ℕ, ◌+◌, ◌*◌, ◌<◌, ◌↔◌, List, [], ◌∷◌, ◌++◌, map, take, drop, length, get_or, slice_set, Option, Some, None, All, Contains, refl, sym, ap, ◌∙◌, subst, arith, inl, inr, append-nil, mul-le-mul}
+use Rattle.std.proofs.Common.{◌≡◌, ℕ, ◌+◌, ◌*◌, ◌<◌, ◌↔◌, List, [], ◌∷◌, ◌++◌, map, take, drop, length, get_or, slice_set, Option, Some, None, All, Contains, refl, sym, ap, ◌∙◌, subst, arith, inl, inr, append-nil, mul-le-mul, eq-eqb, false, not}
 use Rattle.std.specs.List.{flat_map, range_with_len}
 use Rattle.std.proofs.lemmas.Grind.{flat_map-append}
 use Rattle.std.proofs.lemmas.List.{map-append, take_more, take-append-drop, get_or_default, get_or-set_same, get_or-set_other, length-set}
@@ -7,14 +7,14 @@ use Rattle.std.proofs.lemmas.List.FromFn.{map-range_with_len_more}
 use Rattle.std.proofs.lemmas.List.Elements.{All-map, All-weaker, All-contains_itself, Contains-push, Contains-push_cases, Contains-append_left}
 use Rattle.tsn_model.specs.Network.{Network, IsWellFormed, stream_count, hop_count}
 use Rattle.tsn_model.specs.Timing.{shifts}
-use Rattle.tsn_model.specs.Bridge.{Passage, ScheduledStart, BridgeRun, IsPassage, StartedAt}
+use Rattle.tsn_model.specs.Bridge.{Passage, ScheduledStart, BridgeRun, IsPassage, StartedAt, StartsOnTime, planned}
 use Rattle.tsn_model.proofs.Limits.{hops-le}
 use Rattle.tsn_model.proofs.Lists.{All-flat_map, All-range, All-unmap, range_more}
 use Rattle.tsn_model.proofs.Hops.{passage_cases, same_cycle, cycle_below}
 use Rattle.tsn_gate.specs.declared.trace.Row.{Row}
 use Rattle.tsn_gate.specs.Frames.{frames_of, index_of}
 use Rattle.tsn_gate.proofs.Counting.{index-below, one_index}
-use Rattle.tsn_gate.specs.Rows.{frame_passages, stream_passages, cycle_passages, passages_of, cell_of, row_of, row_passage, IsTable, IsRow, AreRows}
+use Rattle.tsn_gate.specs.Rows.{frame_passages, stream_passages, cycle_passages, passages_of, cell_of, row_of, row_passage, is_late, is_late_by, IsTable, IsRow, AreRows}
 
 abbrev pub passage_at : ℕ → ℕ → ℕ → ℕ → Passage
 passage_at cycle stream shift hop = record { stream = stream; shift = shift; cycle = cycle; hop = hop }
@@ -159,3 +159,18 @@ rows_named network offsets cycles run rows count named are =
     All-unmap (λ (p : Passage). p.stream < count) row_passage rows
     (subst (All (λ (p : Passage). p.stream < count)) (sym are.passages)
     (All-weaker (IsPassage network cycles) (λ (p : Passage). p.stream < count) (λ p is. let below = is.stream in omega arith) (passages_of network cycles) (all_passages network cycles)))
+
+-- where each frame starts when planned no row is late
+late_not : (planned time : ℕ) → time ≡ planned → is_late_by planned (Some time) ≡ false
+late_not planned time same = ap not (eq-eqb time planned same)
+
+pub rows_on_time : (network : Network) (offsets : List ℕ) (cycles : ℕ) (run : BridgeRun) (rows : List Row) → AreRows network offsets cycles run rows
+    → StartsOnTime network offsets cycles run → All (λ (row : Row). is_late row ≡ false) rows
+unfolding is_late
+rows_on_time network offsets cycles run rows are starts k d below =
+    let row = get_or rows k d in
+    let passages = All-unmap (IsPassage network cycles) row_passage rows
+    (subst (All (IsPassage network cycles)) (sym are.passages) (all_passages network cycles)) in
+    let is = are.right k d below in
+    let started = (is.started (planned network offsets (row_passage row))).1 (starts (row_passage row) (passages k d below)) in
+    ap (is_late_by row.planned) started ∙ late_not row.planned (planned network offsets (row_passage row)) (sym is.planned_at)

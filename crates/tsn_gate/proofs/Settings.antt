@@ -68,14 +68,16 @@ valid_spaced network offsets formed valid = record {
     link_of_first : (i : ℕ) → i < stream_count network → UsesLink network i (route_link network i 0)
     link_of_first i below = let some = hops-pos network formed i below in hop_uses network formed i below 0 (omega arith)
 
-pub setting_right : (setting : Setting) → IsWellFormed setting.network → IsValid setting.network setting.offsets → setting.cycles ≤ 16 → NamesLinks setting.network setting.gates setting.background
+pub setting_right : (setting : Setting) → IsWellFormed setting.network → IsValid setting.network setting.offsets → setting.cycles ≤ 16
+    → setting.slack ≤ 1000000 → NamesLinks setting.network setting.gates setting.background
     → KeepsLimits setting.network setting.gates setting.cycles setting.background → IsSetting setting
-setting_right setting formed valid few names keeps = record {
+setting_right setting formed valid few short names keeps = record {
   formed = formed;
   count = valid.count;
   small = offsets_within setting.network setting.offsets valid;
   spaced = valid_spaced setting.network setting.offsets formed valid;
   few = few;
+  short = short;
   lists = record { links = names.exist; distinct = names.distinct; used = λ i k i_below k_below. listed_at setting.gates (route_link setting.network i k) (names.used i i_below k k_below) };
   background = has_background setting.network formed setting.gates setting.cycles few setting.background names keeps;
 }

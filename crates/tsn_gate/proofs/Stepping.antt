@@ -4,9 +4,10 @@ use Rattle.std.proofs.Math.Nat.{max-le, le-max_left, le-min}
 use Rattle.std.proofs.lemmas.Bool.{cases_lt, cases_eq}
 use Rattle.std.proofs.lemmas.List.{get_or_default, get_or-set_same, get_or-set_other, length-set}
 use Rattle.std.proofs.lemmas.List.Elements.{All-set}
-use Rattle.tsn_model.specs.Network.{Network, link_at, stream_count}
+use Rattle.tsn_model.specs.Network.{Network, link_at, stream_count, hop_count}
 use Rattle.tsn_model.specs.Timing.{occupancy}
 use Rattle.tsn_model.specs.Bridge.{LinkGates, BridgeRun, IsBridgeRun, IsFed}
+use Rattle.tsn_model.specs.Early.{IsEarlyRun}
 use Rattle.tsn_gate.specs.declared.queue.Frame.{Frame}
 use Rattle.tsn_gate.specs.declared.feed.Waiting.{Waiting}
 use Rattle.tsn_gate.specs.declared.feed.Feed.{Feed}
@@ -16,15 +17,15 @@ use Rattle.tsn_gate.specs.Queue.{Waits, AreInLine, Next, CanStart, IsNextOf, fra
 use Rattle.tsn_gate.specs.Feeding.{waiting_on, IsFeedOf, IsSent}
 use Rattle.tsn_gate.specs.Ports.{IsPort, IsScheduledNext, IsFirstPort, port_time, port_in}
 use Rattle.tsn_gate.specs.Records.{IsRecord, noted}
-use Rattle.tsn_gate.specs.Progress.{IsRunSoFar, IsFedSoFar, IsTracked, Setting, IsSetting, IsUnderWay, IsPortAt, IsState, AreStarts, advanced}
-use Rattle.tsn_gate.proofs.PassageStarts.{with_passage}
+use Rattle.tsn_gate.specs.Progress.{Plan, HasTurn, turn_of, IsRunSoFar, IsFedSoFar, IsTracked, Setting, IsSetting, IsUnderWay, IsPortAt, IsState, AreStarts, advanced}
+use Rattle.tsn_gate.proofs.PassageStarts.{with_passage, turned, onward}
 use Rattle.tsn_gate.proofs.BackgroundStarts.{with_background}
-use Rattle.tsn_gate.proofs.InLine.{line_kept}
+use Rattle.tsn_gate.proofs.InLine.{line_kept, sooner_ready}
 use Rattle.tsn_gate.proofs.Nexts.{time_facts, none_next, next_scheduled, next_background}
 use Rattle.tsn_gate.proofs.Ports.{scheduled_later, port_later, port_kept}
 use Rattle.tsn_gate.proofs.Records.{record_started, record_sent}
 use Rattle.tsn_gate.proofs.States.{under_way_ports, port_set_same, port_set_other}
-use Rattle.tsn_gate.proofs.Steps.{IsGiven, line_given, ends_run, ends_fed, can_start, passage_step, send_run, send_fed, still_tracked, time_falls}
+use Rattle.tsn_gate.proofs.Steps.{IsGiven, line_given, ends_run, ends_exact, ends_fed, can_start, passage_step, send_run, send_fed, still_tracked, time_falls}
 
 abbrev no_list : LinkGates
 no_list = record { link = 0; entries = [] }
@@ -41,6 +42,9 @@ module _ (setting : Setting) (state : State) (can : IsSetting setting) (is : IsS
 
   abbrev made : BridgeRun
   made = is.under_way.made
+
+  abbrev plan : Plan
+  plan = record { offsets = setting.offsets; slack = setting.slack; turn = is.under_way.turn }
 
   abbrev port_at : ℕ → Port
   port_at number = port_in state.ports number
@@ -62,20 +66,34 @@ module _ (setting : Setting) (state : State) (can : IsSetting setting) (is : IsS
     none =
         none_next network setting.gates can.lists state.frames.items line state.free.items state.time end port_at ports (omega arith) (λ other below. let after = late other (omega arith) in omega arith)
 
-    ends_as_run : IsBridgeRun network setting.offsets setting.gates setting.cycles made
+    ends_as_run : IsEarlyRun network setting.offsets setting.gates setting.cycles (λ link. setting.slack) (λ p. (is.under_way.turn p).ready) made
     ends_as_run =
-        ends_run network can.formed can.spaced setting.offsets setting.gates can.lists setting.cycles setting.background can.background line state.time
+        ends_run network can.formed can.spaced plan setting.gates can.lists setting.cycles setting.background can.background line state.time
         state.free.items made state.frames.items is.under_way.run is.under_way.fed is.under_way.tracked
         (record { link = 0; time = end; frame = None }) none (omega arith) (omega arith)
 
+    ends_as_exact : setting.slack ≡ 0 → IsBridgeRun network setting.offsets setting.gates setting.cycles made
+    ends_as_exact exact =
+        ends_exact network can.formed can.spaced plan setting.gates can.lists setting.cycles setting.background can.background line state.time
+        state.free.items made state.frames.items is.under_way.run is.under_way.fed is.under_way.tracked
+        (record { link = 0; time = end; frame = None }) none exact (omega arith) (omega arith)
+
     ends_as_fed : IsFed network setting.gates setting.cycles setting.background made
     ends_as_fed =
-        ends_fed network can.formed can.spaced setting.offsets setting.gates can.lists setting.cycles setting.background can.background line state.time
+        ends_fed network can.formed can.spaced plan setting.gates can.lists setting.cycles setting.background can.background line state.time
         state.free.items made state.frames.items is.under_way.run is.under_way.fed is.under_way.tracked
         (record { link = 0; time = end; frame = None }) none (omega arith) (omega arith)
 
     pub ends_as_starts : AreStarts setting state.starts
-    ends_as_starts = record { made = made; records = is.under_way.records; run = ends_as_run; fed = ends_as_fed }
+    ends_as_starts = record {
+      made = made;
+      records = is.under_way.records;
+      ready = λ p.
+          (is.under_way.turn p).ready;
+      early = ends_as_run;
+      exact = ends_as_exact;
+      fed = ends_as_fed;
+    }
 
   -- something starts first on the link of a list
   module _ (number : ℕ) (first : IsFirstPort state.ports state.end number) where
@@ -134,12 +152,21 @@ module _ (setting : Setting) (state : State) (can : IsSetting setting) (is : IsS
       pub stream_below : (frame_in state.frames.items waiting).stream < stream_count network
       stream_below = (is.under_way.tracked.each waiting waiting_below).stream
 
+      -- a frame of its stream that is one hop further is ready before it can be
+      pub sooner_here : (a : ℕ) → a < length state.frames.items → (frame_in state.frames.items a).stream ≡ (frame_in state.frames.items waiting).stream
+          → (frame_in state.frames.items a).hop ≡ (frame_in state.frames.items waiting).hop + 1
+          → (frame_in state.frames.items waiting).hop + 1 < hop_count network (frame_in state.frames.items waiting).stream
+          → (frame_in state.frames.items a).ready < (advanced network (frame_in state.frames.items waiting) time).ready
+      sooner_here = sooner_ready network can.formed plan setting.gates setting.cycles
+          (free_on state.free.items) state.time made is.under_way.run state.frames.items is.under_way.tracked is.under_way.line link waiting time can_start_here.0 (is_next.wire in_time)
+
       pub forward : state.time ≤ time
       forward = is_next.forward
 
       -- what the step computes
       module _ (frame : Frame) (frame_is : frame ≡ frame_in state.frames.items waiting) (duration : ℕ) (duration_is : duration ≡ occupancy network frame.stream link) (some : 1 ≤ duration) (short : duration ≤ 1233600)
-          (moved : Frame) (moved_is : moved ≡ advanced network frame time) (early : moved.ready ≤ 2 ^ 50)
+          (moved : Frame) (has : HasTurn network setting.slack state.frames.items waiting (advanced network (frame_in state.frames.items waiting) time)
+          (time + 1) moved) (early : moved.ready ≤ 2 ^ 50)
           (trace : BridgeRun) (trace_is : trace ≡ with_passage state.starts (passage_of frame) time) (frames : Vec Frame Global) (frames_are : frames.items ≡ slice_set state.frames.items waiting moved)
           (free : Vec ℕ Global) (free_is : free.items ≡ slice_set state.free.items link (time + duration)) where
         abbrev started : State
@@ -148,20 +175,24 @@ module _ (setting : Setting) (state : State) (can : IsSetting setting) (is : IsS
         pub started_under_way : IsUnderWay setting started
         started_under_way =
             let run = with_passage made (passage_of frame) time in
-            let step = passage_step network can.formed can.spaced setting.offsets setting.gates can.lists setting.cycles setting.background can.background
+            let turns = turned is.under_way.turn (onward (passage_of (frame_in state.frames.items waiting))) (turn_of moved) in
+            let after : Plan = record { offsets = setting.offsets; slack = setting.slack; turn = turns } in
+            let step = passage_step network can.formed can.spaced plan setting.gates can.lists setting.cycles setting.background can.background
             line state.time state.free.items made state.frames.items is.under_way.run is.under_way.fed is.under_way.tracked
-            next is_next in_time waiting refl frame frame_is run refl duration duration_is moved moved_is is.under_way.wires in
+            next is_next in_time waiting refl frame frame_is run refl duration duration_is moved has is.under_way.wires in
             record {
               end = is.under_way.end;
               time = omega arith;
               small = is.under_way.small;
               made = run;
               records = record_started setting.keeps made state.starts (passage_of frame) time is.under_way.records trace trace_is;
-              run = subst (λ fs. IsRunSoFar network setting.offsets setting.gates setting.cycles (free_on fs) time run) (sym free_is) step.0;
+              turn = turns;
+              run = subst (λ fs. IsRunSoFar network after setting.gates setting.cycles (free_on fs) time run) (sym free_is) step.0;
               fed = subst (λ fs. IsFedSoFar network setting.gates setting.cycles (free_on fs) time setting.background line run) (sym free_is) step.1;
-              tracked = subst (IsTracked network setting.offsets setting.cycles run) (sym frames_are) step.2;
-              line = subst (AreInLine network setting.cycles) (sym (frames_are ∙ ap (slice_set state.frames.items waiting) (moved_is ∙ ap (λ (f : Frame). advanced network f time) frame_is)))
-                  (line_kept network can.formed setting.offsets setting.gates setting.cycles (free_on state.free.items) state.time made is.under_way.run state.frames.items is.under_way.tracked is.under_way.line link waiting time can_start_here.0 (is_next.wire in_time));
+              tracked = subst (IsTracked network after setting.cycles run) (sym frames_are) step.2;
+              line = subst (AreInLine network setting.cycles) (sym frames_are)
+                  (line_kept network can.formed plan setting.gates setting.cycles
+                  (free_on state.free.items) state.time made is.under_way.run state.frames.items is.under_way.tracked is.under_way.line link waiting time can_start_here.0 (is_next.wire in_time) moved has);
               feed = is.under_way.feed;
               wires = ap length free_is ∙ (length-set state.free.items link (time + duration) ∙ is.under_way.wires);
               numbers = is.under_way.numbers;
@@ -251,10 +282,10 @@ module _ (setting : Setting) (state : State) (can : IsSetting setting) (is : IsS
                 let soon = send_in_time in
                 let short = until_short in
                 let upto = short.1 in
-                let run = send_run network can.formed can.spaced setting.offsets setting.gates can.lists setting.cycles setting.background can.background
+                let run = send_run network can.formed can.spaced plan setting.gates can.lists setting.cycles setting.background can.background
                 line state.time state.free.items made state.frames.items is.under_way.run is.under_way.fed is.under_way.tracked
                 send_next is_send_next send_in_time refl waiting waits until until_is is.under_way.wires in
-                let fed = send_fed network can.formed can.spaced setting.offsets setting.gates can.lists setting.cycles setting.background can.background
+                let fed = send_fed network can.formed can.spaced plan setting.gates can.lists setting.cycles setting.background can.background
                 line state.time state.free.items made state.frames.items is.under_way.run is.under_way.fed is.under_way.tracked
                 send_next is_send_next send_in_time refl waiting waits until until_is is.under_way.wires (waiting_on feed) others follows in
                 record {
@@ -264,9 +295,11 @@ module _ (setting : Setting) (state : State) (can : IsSetting setting) (is : IsS
                   made = run_with;
                   records = subst (λ r. IsRecord setting.keeps r trace) run_at
                       (record_sent setting.keeps made state.starts (record { link = waiting.link; time = port.background; octets = waiting.octets; number = waiting.number }) is.under_way.records trace trace_is);
-                  run = subst (λ fs. IsRunSoFar network setting.offsets setting.gates setting.cycles (free_on fs) port.background run_with) (sym free_is) run;
+                  turn = is.under_way.turn;
+                  run = subst (λ fs. IsRunSoFar network plan setting.gates setting.cycles (free_on fs) port.background run_with) (sym free_is) run;
                   fed = subst (λ fs. IsFedSoFar network setting.gates setting.cycles (free_on fs) port.background setting.background (waiting_on feed) run_with) (sym free_is) fed;
-                  tracked = still_tracked network setting.offsets setting.cycles made state.frames.items (record { link = link; time = port.background; octets = waiting.octets; number = waiting.number }) is.under_way.tracked;
+                  tracked = still_tracked network plan setting.cycles made state.frames.items
+                      (record { link = link; time = port.background; octets = waiting.octets; number = waiting.number }) is.under_way.tracked;
                   line = is.under_way.line;
                   feed = feed_is;
                   wires = ap length free_is ∙ (length-set state.free.items link until ∙ is.under_way.wires);

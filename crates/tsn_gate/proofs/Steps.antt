@@ -8,21 +8,24 @@ use Rattle.std.proofs.lemmas.List.Elements.{All-nil}
 use Rattle.tsn_model.proofs.Lists.{Contains-nil}
 use Rattle.tsn_model.specs.Network.{Network, IsWellFormed, link_at}
 use Rattle.tsn_model.specs.Timing.{occupancy}
-use Rattle.tsn_model.specs.Bridge.{LinkGates, BackgroundOpen, BackgroundStart, BackgroundFrame, Background, BridgeRun, wire_uses, link_of, length_of, IsTaken, frame_at, IsBridgeRun, IsFed}
+use Rattle.tsn_model.specs.Bridge.{LinkGates, BackgroundOpen, Passage, IsPassage, IsReady, BackgroundStart, BackgroundFrame, Background, BridgeRun, wire_uses, link_of, length_of, IsTaken, frame_at, IsBridgeRun, IsFed}
+use Rattle.tsn_model.specs.Early.{IsEarlyRun}
+use Rattle.tsn_model.specs.Timing.{hop_delay}
+use Rattle.tsn_model.specs.Network.{route_link}
 use Rattle.tsn_model.specs.Bridge.Background.{nothing, greedy, frames as listed}
 use Rattle.tsn_gate.specs.declared.queue.Frame.{Frame}
 use Rattle.tsn_gate.specs.declared.feed.Waiting.{Waiting}
 use Rattle.tsn_gate.specs.Openings.{HasLists, HasBackground}
 use Rattle.tsn_gate.specs.Queue.{IsSilent, Next, CanStart, IsNextOf, frame_in, passage_of, free_on}
 use Rattle.tsn_gate.specs.Frames.{AreSpaced}
-use Rattle.tsn_gate.specs.Progress.{IsRunSoFar, IsFedSoFar, IsFrame, IsTracked, IsQuiet, IsDue, IsBackgroundDue, IsListSoFar, advanced}
+use Rattle.tsn_gate.specs.Progress.{Turn, Plan, IsTurn, HasTurn, with_turns, turn_of, IsRunSoFar, IsFedSoFar, IsFrame, IsTracked, IsQuiet, IsDue, IsBackgroundDue, IsListSoFar, advanced}
 use Rattle.tsn_gate.specs.Feeding.{waiting_at, no_start, greatest_on, IsOfList, IsLine, IsFirstOn, IsSent}
 use Rattle.tsn_gate.proofs.Progress.{Extends, time_passes, greedy_passes, run_ends, greedy_ends}
-use Rattle.tsn_gate.proofs.PassageStarts.{with_passage, passage_begins, passage_extends, passage_greedy}
+use Rattle.tsn_gate.proofs.PassageStarts.{with_passage, turned, onward, passage_begins, passage_extends, passage_greedy}
 use Rattle.tsn_gate.proofs.BackgroundStarts.{with_background, background_begins, background_extends, background_greedy}
 use Rattle.tsn_gate.proofs.Lines.{list_passes, list_kept, list_sent, line_other, line_sent, list_ends}
 use Rattle.tsn_gate.proofs.Nexts.{waiting_link}
-use Rattle.tsn_gate.proofs.Tracking.{quiet_from_silent, due_from_head}
+use Rattle.tsn_gate.proofs.Tracking.{quiet_from_silent, due_from_head, exact_ends}
 use Rattle.tsn_gate.proofs.Advances.{tracked_next}
 
 -- a frame that waits is one that was handed in
@@ -57,24 +60,33 @@ length_at : (network : Network) (frame : Frame) → occupancy network frame.stre
 unfolding length_of link_of passage_of
 length_at network frame = refl
 
-module _ (network : Network) (formed : IsWellFormed network) (spaced : AreSpaced network) (offsets : List ℕ) (gates : List LinkGates)
+turn_at : (network : Network) (slack : ℕ) (frame : Frame) (time : ℕ) (turn : Turn) → IsTurn slack (advanced network frame time).ready frame.stream turn
+    → IsTurn slack (time + hop_delay network (passage_of frame).stream (route_link network (passage_of frame).stream (passage_of frame).hop))
+    (passage_of frame).stream turn
+unfolding passage_of
+turn_at network slack frame time turn is = is
+
+module _ (network : Network) (formed : IsWellFormed network) (spaced : AreSpaced network) (plan : Plan) (gates : List LinkGates)
     (lists : HasLists network gates) (cycles : ℕ) (background : Background) (given : HasBackground network gates background) (line : ℕ → Option Waiting)
     (now : ℕ) (free : List ℕ) (run : BridgeRun) (frames : List Frame)
-    (so_far : IsRunSoFar network offsets gates cycles (free_on free) now run) (fed : IsFedSoFar network gates cycles (free_on free) now background line run) (tracked : IsTracked network offsets cycles run frames)
+    (so_far : IsRunSoFar network plan gates cycles (free_on free) now run) (fed : IsFedSoFar network gates cycles (free_on free) now background line run)
+    (tracked : IsTracked network plan cycles run frames)
     (next : Next) (is : IsNextOf network gates frames line free now (cycles * network.cycle) next) where
-  quiet_until : (t : ℕ) → now ≤ t → t < next.time → t < cycles * network.cycle → (link : ℕ) → free_on free link ≤ t → IsQuiet network offsets gates cycles t run link
+  quiet_until : (t : ℕ) → now ≤ t → t < next.time → t < cycles * network.cycle → (link : ℕ) → free_on free link ≤ t
+      → IsQuiet network plan gates cycles t run link
   unfolding link_of
   quiet_until t present before in_time link open' = record {
     blocked = λ q ready passage on is_ready since none.
         let used = lists.used q.stream q.hop passage.stream passage.hop in
         let listed : (get_or gates used.0 (record { link = 0; entries = [] })).link ≡ link = used.2 (record { link = 0; entries = [] }) ∙ on in
         let idle = is.idle t used.0 (record { link = 0; entries = [] }) present before in_time used.1 (subst (λ l. free_on free l ≤ t) (sym listed) open') in
-        (quiet_from_silent network formed offsets gates cycles (free_on free) now run spaced so_far frames tracked link t present
+        (quiet_from_silent network formed plan gates cycles (free_on free) now run spaced so_far frames tracked link t present
         (subst (λ l. IsSilent network gates frames l t) listed idle.scheduled)).blocked q ready passage on is_ready since none;
   }
 
-  passed : (later : ℕ) → now ≤ later → later ≤ next.time → IsRunSoFar network offsets gates cycles (free_on free) later run
-  passed later forward upto = time_passes network offsets gates cycles (free_on free) now later run forward so_far (λ t present soon in_time link open'. quiet_until t present (omega arith) in_time link open')
+  passed : (later : ℕ) → now ≤ later → later ≤ next.time → IsRunSoFar network plan gates cycles (free_on free) later run
+  passed later forward upto = time_passes network plan gates cycles (free_on free) now later run forward so_far
+      (λ t present soon in_time link open'. quiet_until t present (omega arith) in_time link open')
 
   closed_until : (t : ℕ) → now ≤ t → t < next.time → t < cycles * network.cycle → (number : ℕ) (d : LinkGates) → number < length gates → free_on free (get_or gates number d).link ≤ t
       → (waiting : Waiting) → line (get_or gates number d).link ≡ Some waiting → waiting.wanted ≤ t → BackgroundOpen gates (get_or gates number d).link t → ⊥
@@ -85,12 +97,12 @@ module _ (network : Network) (formed : IsWellFormed network) (spaced : AreSpaced
     passes : (b : Background) → HasBackground network gates b → IsFedSoFar network gates cycles (free_on free) now b line run → IsFedSoFar network gates cycles (free_on free) later b line run
     passes nothing frames_given before = before
     passes greedy frames_given (before, always) = (
-      greedy_passes network offsets gates cycles (free_on free) now later run forward before
+      greedy_passes network plan gates cycles (free_on free) now later run forward before
           (λ t present soon in_time k d below open'. closed_until t present (omega arith) in_time k d below open' (greatest_on (get_or gates k d).link) (always (get_or gates k d).link (lists.links k d below)) (omega arith)),
       always,
     )
     passes (listed list) frames_given (before, lines) = (
-      list_passes network formed offsets gates cycles (free_on free) now run so_far list before later
+      list_passes network formed plan gates cycles (free_on free) now run so_far list before later
           (λ number t below present soon in_time open'.
           let frame = frames_given number below in
           let at = frame.listed in
@@ -105,8 +117,13 @@ module _ (network : Network) (formed : IsWellFormed network) (spaced : AreSpaced
     )
 
   -- where nothing starts before the end the run is whole
-  pub ends_run : now ≤ cycles * network.cycle → cycles * network.cycle ≤ next.time → IsBridgeRun network offsets gates cycles run
-  ends_run forward late = run_ends network offsets gates cycles (free_on free) run (passed (cycles * network.cycle) forward late)
+  pub ends_run : now ≤ cycles * network.cycle → cycles * network.cycle ≤ next.time
+      → IsEarlyRun network plan.offsets gates cycles (λ link. plan.slack) (λ p. (plan.turn p).ready) run
+  ends_run forward late = run_ends network plan gates cycles (free_on free) run (passed (cycles * network.cycle) forward late)
+
+  pub ends_exact : plan.slack ≡ 0 → now ≤ cycles * network.cycle → cycles * network.cycle ≤ next.time → IsBridgeRun network plan.offsets gates cycles run
+  ends_exact exact forward late =
+      exact_ends network formed plan gates cycles (free_on free) (cycles * network.cycle) run spaced (passed (cycles * network.cycle) forward late) exact refl
 
   pub ends_fed : now ≤ cycles * network.cycle → cycles * network.cycle ≤ next.time → IsFed network gates cycles background run
   ends_fed forward late = fed_ends background (fed_passed (cycles * network.cycle) forward late) where
@@ -116,7 +133,7 @@ module _ (network : Network) (formed : IsWellFormed network) (spaced : AreSpaced
     fed_ends (listed list) before = list_ends network gates cycles list (free_on free) run before.0
 
   module _ (in_time : next.time < cycles * network.cycle) where
-    here_so_far : IsRunSoFar network offsets gates cycles (free_on free) next.time run
+    here_so_far : IsRunSoFar network plan gates cycles (free_on free) next.time run
     here_so_far = passed next.time is.forward (omega arith)
 
     here_fed : IsFedSoFar network gates cycles (free_on free) next.time background line run
@@ -127,22 +144,40 @@ module _ (network : Network) (formed : IsWellFormed network) (spaced : AreSpaced
       pub can_start : CanStart network gates frames line next (Some number)
       can_start = subst (CanStart network gates frames line next) frame_is (is.can in_time)
 
-      due : IsDue network offsets gates cycles (free_on free) next.time run (passage_of (frame_in frames number)) (frame_in frames number).ready
-      due = due_from_head network formed offsets gates cycles (free_on free) next.time run spaced here_so_far frames tracked next.link number next.time
+      abbrev due_at : ℕ
+      due_at = ((tracked.each number can_start.0.0).ready can_start.0.1.waits).0
+
+      due : IsDue network plan gates cycles (free_on free) next.time run (passage_of (frame_in frames number)) due_at
+      due = due_from_head network formed plan gates cycles (free_on free) next.time run spaced here_so_far frames tracked next.link number next.time
           (omega arith) in_time (is.wire in_time) can_start.0 can_start.1 can_start.2
 
       on : link_of network (passage_of (frame_in frames number)) ≡ next.link
       on = waiting_link network next.link (frame_in frames number) can_start.0.1
 
-      module _ (until : ℕ) (until_is : until ≡ next.time + length_of network (passage_of (frame_in frames number))) (wires : length free ≡ length network.links) where
+      module _ (until : ℕ) (until_is : until ≡ next.time + length_of network (passage_of (frame_in frames number))) (wires : length free ≡ length network.links)
+          (moved : Frame) (has : HasTurn network plan.slack frames number (advanced network (frame_in frames number) next.time) (next.time + 1) moved) where
+        -- the turns with that of the frame on its next hop
+        abbrev turns : Passage → Turn
+        turns = turned plan.turn (onward (passage_of (frame_in frames number))) (turn_of moved)
+
+        next_turn : IsTurn plan.slack (next.time + hop_delay network (passage_of (frame_in frames number)).stream
+            (route_link network (passage_of (frame_in frames number)).stream (passage_of (frame_in frames number)).hop))
+            (passage_of (frame_in frames number)).stream (turn_of moved)
+        next_turn = turn_at network plan.slack (frame_in frames number) next.time (turn_of moved) has.turn
+
+        later_turn : next.time < moved.ready
+        later_turn = let least = has.least in omega arith
+
         set_here : free_on (slice_set free next.link until) (link_of network (passage_of (frame_in frames number))) ≡ next.time + length_of network (passage_of (frame_in frames number))
         set_here = grind (arith, on, get_or-set_same)
 
         set_elsewhere : (m : ℕ) → (m ≡ link_of network (passage_of (frame_in frames number)) → ⊥) → free_on (slice_set free next.link until) m ≡ free_on free m
         set_elsewhere m differ = get_or-set_other free next.link m until 0 (λ same. differ (same ∙ sym on))
 
-        pub passage_run : IsRunSoFar network offsets gates cycles (free_on (slice_set free next.link until)) next.time (with_passage run (passage_of (frame_in frames number)) next.time)
-        passage_run = passage_begins network formed offsets gates cycles (free_on free) (free_on (slice_set free next.link until)) next.time run here_so_far (passage_of (frame_in frames number)) (frame_in frames number).ready due set_here set_elsewhere
+        pub passage_run : IsRunSoFar network (with_turns plan turns) gates cycles (free_on (slice_set free next.link until)) next.time
+            (with_passage run (passage_of (frame_in frames number)) next.time)
+        passage_run = passage_begins network formed plan gates cycles (free_on free) (free_on (slice_set free next.link until)) next.time run here_so_far
+            (passage_of (frame_in frames number)) due_at due (turn_of moved) next_turn later_turn set_here set_elsewhere
 
         passage_busy : (m t : ℕ) → next.time ≤ t → t < free_on (slice_set free next.link until) m → IsTaken network (with_passage run (passage_of (frame_in frames number)) next.time) m t
         passage_busy = passage_run.busy
@@ -151,12 +186,15 @@ module _ (network : Network) (formed : IsWellFormed network) (spaced : AreSpaced
             → IsFedSoFar network gates cycles (free_on (slice_set free next.link until)) next.time b line (with_passage run (passage_of (frame_in frames number)) next.time)
         fed_passage nothing before = before
         fed_passage greedy (before, always) = (
-          passage_greedy network formed offsets gates cycles (free_on free) (free_on (slice_set free next.link until)) next.time run here_so_far (passage_of (frame_in frames number)) (frame_in frames number).ready due set_here set_elsewhere before,
+          passage_greedy network formed plan gates cycles (free_on free) (free_on (slice_set free next.link until)) next.time run here_so_far
+              (passage_of (frame_in frames number)) due_at due (turn_of moved) next_turn later_turn set_here set_elsewhere before,
           always,
         )
         fed_passage (listed list) (before, lines) = (
-          list_kept network formed offsets gates cycles (free_on free) next.time run here_so_far (with_passage run (passage_of (frame_in frames number)) next.time) (free_on (slice_set free next.link until))
-              (passage_extends network formed offsets gates cycles (free_on free) (free_on (slice_set free next.link until)) next.time run here_so_far (passage_of (frame_in frames number)) (frame_in frames number).ready due set_here set_elsewhere)
+          list_kept network formed plan gates cycles (free_on free) next.time run here_so_far
+              (with_passage run (passage_of (frame_in frames number)) next.time) (free_on (slice_set free next.link until))
+              (passage_extends network formed plan gates cycles (free_on free) (free_on (slice_set free next.link until)) next.time run here_so_far
+              (passage_of (frame_in frames number)) due_at due (turn_of moved) next_turn later_turn set_here set_elsewhere)
               passage_busy list before refl,
           lines,
         )
@@ -164,8 +202,11 @@ module _ (network : Network) (formed : IsWellFormed network) (spaced : AreSpaced
         pub passage_fed : IsFedSoFar network gates cycles (free_on (slice_set free next.link until)) next.time background line (with_passage run (passage_of (frame_in frames number)) next.time)
         passage_fed = fed_passage background here_fed
 
-        pub passage_tracked : IsTracked network offsets cycles (with_passage run (passage_of (frame_in frames number)) next.time) (slice_set frames number (advanced network (frame_in frames number) next.time))
-        passage_tracked = tracked_next network offsets cycles run frames tracked number next.time can_start.0.0 can_start.0.1.waits
+        pub passage_tracked : IsTracked network (with_turns plan turns) cycles (with_passage run (passage_of (frame_in frames number)) next.time)
+            (slice_set frames number moved)
+        passage_tracked = subst (λ f. IsTracked network (with_turns plan turns) cycles (with_passage run (passage_of (frame_in frames number)) next.time)
+            (slice_set frames number f)) (sym has.is)
+            (tracked_next network plan cycles run frames tracked number next.time can_start.0.0 can_start.0.1.waits (turn_of moved))
 
       pub length_is : (duration : ℕ) → duration ≡ occupancy network (frame_in frames number).stream next.link
           → next.time + duration ≡ next.time + length_of network (passage_of (frame_in frames number))
@@ -174,20 +215,26 @@ module _ (network : Network) (formed : IsWellFormed network) (spaced : AreSpaced
       -- the state after it, from what the program computed
       pub passage_step : (frame : Frame) → frame ≡ frame_in frames number → (trace : BridgeRun) → trace ≡ with_passage run (passage_of frame) next.time
           → (duration : ℕ) → duration ≡ occupancy network frame.stream next.link
-          → (moved : Frame) → moved ≡ advanced network frame next.time → length free ≡ length network.links
-          → IsRunSoFar network offsets gates cycles (free_on (slice_set free next.link (next.time + duration))) next.time trace
+          → (moved : Frame) → HasTurn network plan.slack frames number (advanced network (frame_in frames number) next.time) (next.time + 1) moved
+          → length free ≡ length network.links
+          → IsRunSoFar network (with_turns plan (turned plan.turn (onward (passage_of (frame_in frames number))) (turn_of moved))) gates cycles
+          (free_on (slice_set free next.link (next.time + duration))) next.time trace
           × IsFedSoFar network gates cycles (free_on (slice_set free next.link (next.time + duration))) next.time background line trace
-          × IsTracked network offsets cycles trace (slice_set frames number moved)
-      passage_step frame same trace trace_is duration is_duration moved moved_is wires =
+          × IsTracked network (with_turns plan (turned plan.turn (onward (passage_of (frame_in frames number))) (turn_of moved))) cycles trace
+          (slice_set frames number moved)
+      passage_step frame same trace trace_is duration is_duration moved has wires =
           let duration_at : duration ≡ occupancy network (frame_in frames number).stream next.link = is_duration ∙ ap
           (λ (f : Frame). occupancy network f.stream next.link) same in
           let until = length_is duration duration_at in
-          let run_is : trace ≡ with_passage run (passage_of (frame_in frames number)) next.time = trace_is ∙ ap (λ (f : Frame). with_passage run (passage_of f) next.time) same in
-          let frame_at : moved ≡ advanced network (frame_in frames number) next.time = moved_is ∙ ap (λ (f : Frame). advanced network f next.time) same in (
-            subst (IsRunSoFar network offsets gates cycles (free_on (slice_set free next.link (next.time + duration))) next.time) (sym run_is) (passage_run (next.time + duration) until wires),
-            subst (IsFedSoFar network gates cycles (free_on (slice_set free next.link (next.time + duration))) next.time background line) (sym run_is) (passage_fed (next.time + duration) until wires),
-            subst (λ r. IsTracked network offsets cycles r (slice_set frames number moved)) (sym run_is)
-                (subst (λ f. IsTracked network offsets cycles (with_passage run (passage_of (frame_in frames number)) next.time) (slice_set frames number f)) (sym frame_at) (passage_tracked (next.time + duration) until wires)),
+          let after = with_turns plan (turned plan.turn (onward (passage_of (frame_in frames number))) (turn_of moved)) in
+          let run_is : trace ≡ with_passage run (passage_of (frame_in frames number)) next.time = trace_is
+          ∙ ap (λ (f : Frame). with_passage run (passage_of f) next.time) same in (
+            subst (IsRunSoFar network after gates cycles (free_on (slice_set free next.link (next.time + duration))) next.time) (sym run_is)
+                (passage_run (next.time + duration) until wires moved has),
+            subst (IsFedSoFar network gates cycles (free_on (slice_set free next.link (next.time + duration))) next.time background line) (sym run_is)
+                (passage_fed (next.time + duration) until wires moved has),
+            subst (λ r. IsTracked network after cycles r (slice_set frames number moved)) (sym run_is)
+                (passage_tracked (next.time + duration) until wires moved has),
           )
 
     -- a background frame
@@ -199,12 +246,12 @@ module _ (network : Network) (formed : IsWellFormed network) (spaced : AreSpaced
       wanted : waiting.wanted ≤ next.time
       wanted = grind (arith, can_send)
 
-      send_due : IsBackgroundDue network offsets gates cycles (free_on free) next.time run next.link
+      send_due : IsBackgroundDue network plan gates cycles (free_on free) next.time run next.link
       send_due = record {
         wire = is.wire in_time;
         in_time = in_time;
         opened = can_send.1;
-        quiet = quiet_from_silent network formed offsets gates cycles (free_on free) next.time run spaced here_so_far frames tracked next.link next.time
+        quiet = quiet_from_silent network formed plan gates cycles (free_on free) next.time run spaced here_so_far frames tracked next.link next.time
             (omega arith) can_send.2;
       }
 
@@ -220,18 +267,21 @@ module _ (network : Network) (formed : IsWellFormed network) (spaced : AreSpaced
       is_given : IsGiven network next.link waiting
       is_given = line_given network gates cycles (free_on free) next.time line run background given here_fed next.link (is.link in_time) waiting first
 
-      pub send_run : IsRunSoFar network offsets gates cycles (free_on (slice_set free next.link until)) next.time sent
-      send_run = background_begins network offsets gates cycles (free_on free) (free_on (slice_set free next.link until)) next.time run here_so_far next.link waiting.octets waiting.number send_due is_given.short sent_here sent_elsewhere
+      pub send_run : IsRunSoFar network plan gates cycles (free_on (slice_set free next.link until)) next.time sent
+      send_run = background_begins network plan gates cycles (free_on free)
+          (free_on (slice_set free next.link until)) next.time run here_so_far next.link waiting.octets waiting.number send_due is_given.short sent_here sent_elsewhere
 
       send_extends : Extends network run sent next.time
-      send_extends = background_extends network offsets gates cycles (free_on free) (free_on (slice_set free next.link until)) next.time run here_so_far next.link waiting.octets waiting.number send_due is_given.short sent_here sent_elsewhere
+      send_extends = background_extends network plan gates cycles (free_on free)
+          (free_on (slice_set free next.link until)) next.time run here_so_far next.link waiting.octets waiting.number send_due is_given.short sent_here sent_elsewhere
 
       module _ (line' : ℕ → Option Waiting) (others : (m : ℕ) → (m ≡ next.link → ⊥) → line' m ≡ line m) (follows : IsSent background (line next.link) (line' next.link)) where
         fed_send : (b : Background) → IsFedSoFar network gates cycles (free_on free) next.time b line run → IsSent b (line next.link) (line' next.link)
             → IsFedSoFar network gates cycles (free_on (slice_set free next.link until)) next.time b line' sent
         fed_send nothing (before, never) still = let none : None ≡ Some waiting = sym (never next.link (is.link in_time)) ∙ first in cc
         fed_send greedy (before, always) still = (
-          background_greedy network offsets gates cycles (free_on free) (free_on (slice_set free next.link until)) next.time run here_so_far next.link waiting.octets waiting.number send_due is_given.short sent_here sent_elsewhere greatest before,
+          background_greedy network plan gates cycles (free_on free) (free_on
+              (slice_set free next.link until)) next.time run here_so_far next.link waiting.octets waiting.number send_due is_given.short sent_here sent_elsewhere greatest before,
           λ m exists. (grind arith),
         ) where
           greatest : waiting.octets ≡ 1522
@@ -241,17 +291,20 @@ module _ (network : Network) (formed : IsWellFormed network) (spaced : AreSpaced
               ap (λ (w : Waiting). w.octets) same
         fed_send (listed list) (before, lines) still = (
           subst (λ l. IsListSoFar network gates cycles list (free_on (slice_set free next.link until)) next.time (with_background run (record { link = l; time = next.time; octets = waiting.octets; number = waiting.number }))) is_given.on
-              (list_sent network formed offsets gates cycles (free_on free) next.time run here_so_far list before next.link (is.link in_time) waiting in_line wanted (is.wire in_time) (free_on (slice_set free next.link until))
+              (list_sent network formed plan gates cycles (free_on free) next.time run here_so_far list before next.link
+              (is.link in_time) waiting in_line wanted (is.wire in_time) (free_on (slice_set free next.link until))
               (subst (λ l. Extends network run (with_background run (record { link = l; time = next.time; octets = waiting.octets; number = waiting.number })) next.time) (sym is_given.on) send_extends)
               (subst (λ l. (m t : ℕ) → next.time ≤ t → t < free_on (slice_set free next.link until) m → IsTaken network (with_background run (record { link = l; time = next.time; octets = waiting.octets; number = waiting.number })) m t) (sym is_given.on) send_run.busy)),
           λ m exists. elim (cases_eq m next.link) [
             | inl same ↦ subst (λ l. IsLine list sent l (line' l)) (sym same)
                 (subst (λ l. IsLine list (with_background run (record { link = l; time = next.time; octets = waiting.octets; number = waiting.number })) next.link (line' next.link)) is_given.on
-                (line_sent network formed offsets gates cycles (free_on free) next.time run here_so_far list before next.link (is.link in_time) waiting in_line wanted (is.wire in_time) (free_on (slice_set free next.link until))
+                (line_sent network formed plan gates cycles (free_on free) next.time run here_so_far list before next.link
+                (is.link in_time) waiting in_line wanted (is.wire in_time) (free_on (slice_set free next.link until))
                 (line' next.link) (still waiting first)))
             | inr differ ↦ subst (IsLine list sent m) (sym (others m differ))
                 (subst (λ l. IsLine list (with_background run (record { link = l; time = next.time; octets = waiting.octets; number = waiting.number })) m (line m)) is_given.on
-                (line_other network formed offsets gates cycles (free_on free) next.time run here_so_far list before next.link (is.link in_time) waiting in_line wanted (is.wire in_time) (free_on (slice_set free next.link until))
+                (line_other network formed plan gates cycles (free_on free) next.time run here_so_far list before next.link
+                (is.link in_time) waiting in_line wanted (is.wire in_time) (free_on (slice_set free next.link until))
                 m differ (line m) (lines m exists)))
           ],
         ) where
@@ -267,9 +320,11 @@ time_falls free link until end below before longer = let sums = sum_by-set (λ (
 
 -- ---- the beginning
 
-pub no_run : (network : Network) (offsets : List ℕ) (gates : List LinkGates) (cycles : ℕ) (free : List ℕ) → ((link : ℕ) → free_on free link ≡ 0) → IsRunSoFar network offsets gates cycles (free_on free) 0 no_start
+pub no_run : (network : Network) (plan : Plan) (gates : List LinkGates) (cycles : ℕ) (free : List ℕ) → ((link : ℕ) → free_on free link ≡ 0)
+    → ((q : Passage) (due : ℕ) → IsPassage network cycles q → IsReady network plan.offsets no_start q due → IsTurn plan.slack due q.stream (plan.turn q))
+    → IsRunSoFar network plan gates cycles (free_on free) 0 no_start
 unfolding wire_uses
-no_run network offsets gates cycles free empty = grind (arith, All-nil, Contains-nil)
+no_run network plan gates cycles free empty turns = grind (arith, All-nil, Contains-nil, turns)
 
 no_list : (network : Network) (gates : List LinkGates) (cycles : ℕ) (free : List ℕ) → ((link : ℕ) → free_on free link ≡ 0) → (list : List BackgroundFrame) → IsListSoFar network gates cycles list (free_on free) 0 no_start
 no_list network gates cycles free empty list = grind (arith, All-nil, wanted)
@@ -287,14 +342,22 @@ no_fed network gates cycles free empty (listed list) line first = (no_list netwo
 
 pub read_frame : (frames : List Frame) (number : ℕ) (frame : Frame) → number < length frames → frame ≡ get_or frames number frame → frame ≡ frame_in frames number
 unfolding frame_in
-read_frame frames number frame below is = is ∙ get_or_default frames number frame (record { stream = 0; shift = 0; cycle = 0; hop = 0; ready = 0 }) below
+read_frame frames number frame below is = is ∙ get_or_default frames number frame
+    (record { stream = 0; shift = 0; cycle = 0; hop = 0; ready = 0; rank = 0 }) below
 
-still_frame : (network : Network) (offsets : List ℕ) (cycles : ℕ) (run : BridgeRun) (frame : Frame) (begun : BackgroundStart) → IsFrame network offsets cycles run frame → IsFrame network offsets cycles (with_background run begun) frame
-still_frame network offsets cycles run frame begun is = grind arith
+still_frame : (network : Network) (plan : Plan) (cycles : ℕ) (run : BridgeRun) (frame : Frame) (begun : BackgroundStart)
+    → IsFrame network plan cycles run frame → IsFrame network plan cycles (with_background run begun) frame
+still_frame network plan cycles run frame begun is = grind arith
 
 -- a background start changes nothing for the frames
-pub still_tracked : (network : Network) (offsets : List ℕ) (cycles : ℕ) (run : BridgeRun) (frames : List Frame) (begun : BackgroundStart) → IsTracked network offsets cycles run frames → IsTracked network offsets cycles (with_background run begun) frames
-still_tracked network offsets cycles run frames begun tracked = record { each = λ number below. still_frame network offsets cycles run (frame_in frames number) begun (tracked.each number below); complete = tracked.complete; distinct = tracked.distinct }
+pub still_tracked : (network : Network) (plan : Plan) (cycles : ℕ) (run : BridgeRun) (frames : List Frame) (begun : BackgroundStart)
+    → IsTracked network plan cycles run frames → IsTracked network plan cycles (with_background run begun) frames
+still_tracked network plan cycles run frames begun tracked = record {
+  each = λ number below. still_frame network plan cycles run
+      (frame_in frames number) begun (tracked.each number below);
+  complete = tracked.complete;
+  distinct = tracked.distinct;
+}
 
 pub zeros : (n link : ℕ) → free_on (replicate n 0) link ≡ 0
 zeros n link = grind (arith, get_or-replicate, replicate, length-replicate, get_or-eq_default)

@@ -8,13 +8,13 @@ use Rattle.std.proofs.lemmas.List.Elements.{All-contains, Contains-append_left}
 use Rattle.tsn_model.specs.Network.{Network, IsWellFormed, hop_count, route_link}
 use Rattle.tsn_model.specs.Timing.{hop_delay}
 use Rattle.tsn_model.specs.Schedule.{offset_of}
-use Rattle.tsn_model.specs.Bridge.{LinkGates, Passage, ScheduledStart, BridgeRun, WireUse, link_of, length_of, scheduled_use, background_use, wire_uses, AreDisjoint, IsPassage, StartedAt, NotStartedBefore, IsReady, FitsAt, IsBlocked}
+use Rattle.tsn_model.specs.Bridge.{LinkGates, Passage, ScheduledStart, BridgeRun, WireUse, link_of, length_of, scheduled_use, background_use, wire_uses, AreDisjoint, IsPassage, StartedAt, NotStartedBefore, IsReady, FitsAt, IsBlocked, IsBridgeRun}
 use Rattle.tsn_model.proofs.Limits.{occupancy-ge}
 use Rattle.tsn_model.proofs.Hops.{hop_once, same_cycle, link_exists, passage_cases}
 use Rattle.tsn_model.proofs.Lists.{Contains-map}
 use Rattle.tsn_gate.specs.declared.queue.Frame.{Frame}
 use Rattle.tsn_gate.specs.Queue.{Waits, IsHead, IsSilent, frame_in, passage_of}
-use Rattle.tsn_gate.specs.Progress.{IsRunSoFar, IsTracked, IsDue, IsQuiet}
+use Rattle.tsn_gate.specs.Progress.{Turn, Goes, Plan, IsHeldUp, IsRunSoFar, IsTracked, IsDue, IsQuiet, turn_of}
 use Rattle.tsn_gate.specs.Frames.{AreSpaced}
 use Rattle.tsn_gate.proofs.Nexts.{waiting_link}
 
@@ -34,9 +34,9 @@ unfolding scheduled_use
 together network p q s same p_long q_long (inl apart) = apart same s (omega arith) (omega arith) (omega arith) (omega arith)
 together network p q s same p_long q_long (inr apart) = apart (sym same) s (omega arith) (omega arith) (omega arith) (omega arith)
 
-module _ (network : Network) (formed : IsWellFormed network) (offsets : List ℕ) (gates : List LinkGates) (cycles : ℕ) (free : ℕ → ℕ) (now : ℕ) (run : BridgeRun)
-    (spaced : AreSpaced network) (so_far : IsRunSoFar network offsets gates cycles free now run) where
-  pub ready_once : (q : Passage) (a b : ℕ) → IsReady network offsets run q a → IsReady network offsets run q b → a ≡ b
+module _ (network : Network) (formed : IsWellFormed network) (plan : Plan) (gates : List LinkGates) (cycles : ℕ) (free : ℕ → ℕ) (now : ℕ) (run : BridgeRun)
+    (spaced : AreSpaced network) (so_far : IsRunSoFar network plan gates cycles free now run) where
+  pub ready_once : (q : Passage) (a b : ℕ) → IsReady network plan.offsets run q a → IsReady network plan.offsets run q b → a ≡ b
   ready_once q a b (inl (first, at_a)) (inl (first_too, at_b)) = omega arith
   ready_once q a b (inl (first, at_a)) (inr (before, s, next, started, after)) = absurd (omega arith)
   ready_once q a b (inr (before, s, next, started, after)) (inl (first, at_b)) = absurd (omega arith)
@@ -83,9 +83,9 @@ module _ (network : Network) (formed : IsWellFormed network) (offsets : List ℕ
 
   -- two that are ready together on one hop are of one cycle and shift
   one_cycle : (p q : Passage) (t : ℕ) → IsPassage network cycles p → IsPassage network cycles q → link_of network p ≡ link_of network q → p.stream ≡ q.stream → p.hop ≡ q.hop
-      → IsReady network offsets run p t → IsReady network offsets run q t → (p.cycle ≡ q.cycle) × (p.shift ≡ q.shift)
+      → IsReady network plan.offsets run p t → IsReady network plan.offsets run q t → (p.cycle ≡ q.cycle) × (p.shift ≡ q.shift)
   one_cycle p q t passage q_passage link stream hop (inl (first, at)) (inl (first_too, at_too)) =
-      let offset : offset_of offsets p.stream ≡ offset_of offsets q.stream = ap (offset_of offsets) stream in
+      let offset : offset_of plan.offsets p.stream ≡ offset_of plan.offsets q.stream = ap (offset_of plan.offsets) stream in
       let cycle = same_cycle p.cycle q.cycle network.cycle p.shift q.shift (spaced.within p.stream p.shift passage.stream passage.sent)
       (spaced.within q.stream q.shift q_passage.stream q_passage.sent) (omega arith) in
       let begun : p.cycle * network.cycle ≡ q.cycle * network.cycle = ap (λ n. n * network.cycle) cycle in
@@ -108,29 +108,93 @@ module _ (network : Network) (formed : IsWellFormed network) (offsets : List ℕ
 
   -- two frames of one stream are ready on a link at different instants
   pub readies_differ : (p q : Passage) (t : ℕ) → IsPassage network cycles p → IsPassage network cycles q → link_of network p ≡ link_of network q → p.stream ≡ q.stream
-      → IsReady network offsets run p t → IsReady network offsets run q t → p ≡ q
+      → IsReady network plan.offsets run p t → IsReady network plan.offsets run q t → p ≡ q
   readies_differ p q t passage q_passage link stream ready q_ready =
       let hop = one_hop p q passage q_passage link stream in
       let same = one_cycle p q t passage q_passage link stream hop ready q_ready in
       λ i. record { stream = stream i; shift = same.1 i; cycle = same.0 i; hop = hop i }
 
-  reached_from : (q : Passage) (ready : ℕ) → IsReady network offsets run q ready → (hop : ℕ) → ((k s : ℕ) → hop ≤ k → StartedAt run (record q { hop = k }) s → ⊥) → q.hop ≤ hop
+  reached_from : (q : Passage) (ready : ℕ) → IsReady network plan.offsets run q ready → (hop : ℕ)
+      → ((k s : ℕ) → hop ≤ k → StartedAt run (record q { hop = k }) s → ⊥) → q.hop ≤ hop
   reached_from q ready (inl (first, at)) hop unstarted = omega arith
   reached_from q ready (inr (before, s, next, started, after)) hop unstarted = elim (cases_lt before hop) [
     | inl less ↦ omega arith
     | inr past ↦ absurd (unstarted before s past started)
   ]
 
-  module _ (frames : List Frame) (tracked : IsTracked network offsets cycles run frames) where
+  -- where no frame may be early a passage is held up by one that is before it in the queue
+  module _ (exact : plan.slack ≡ 0) where
+    turn_exact : (q : Passage) (due : ℕ) → IsPassage network cycles q → IsReady network plan.offsets run q due
+        → ((plan.turn q).ready ≡ due) × ((plan.turn q).rank ≡ q.stream)
+    turn_exact q due passage is_ready =
+        let turn = so_far.turns q due passage is_ready in
+        let upto = turn.upto in
+        let since = turn.since in
+        (omega arith, turn.exact exact)
+
+    blocked_exact : (q : Passage) (due t : ℕ) → IsPassage network cycles q → IsReady network plan.offsets run q due
+        → IsHeldUp network plan.offsets gates cycles plan.turn run q t
+        → IsBlocked network plan.offsets gates cycles run q due t
+    blocked_exact q due t passage is_ready (inl closed) = inl closed
+    blocked_exact q due t passage is_ready (inr (inl wire)) = inr (inl wire)
+    blocked_exact q due t passage is_ready (inr (inr (other, other_due, other_passage, differ, on, other_ready, goes, not_before))) =
+        let turn = turn_exact q due passage is_ready in
+        let other_turn = turn_exact other other_due other_passage other_ready in
+        let at = turn.0 in
+        let other_at = other_turn.0 in
+        let rank = turn.1 in
+        let other_rank = other_turn.1 in
+        inr (inr (
+          other,
+          other_due,
+          other_passage,
+          record {
+            same_link = on;
+            ready = other_ready;
+            order = elim goes [
+              | inl sooner ↦ inl (omega arith)
+              | inr (same, order) ↦
+                  let together : other_due ≡ due = omega arith in
+                  elim (cases_lt other.stream q.stream) [
+                    | inl less ↦ inr (together, less)
+                    | inr not_less ↦ absurd (differ (readies_differ other q due other_passage passage on (omega arith)
+                        (subst (IsReady network plan.offsets run other) together other_ready) is_ready))
+                  ]
+            ];
+          },
+          not_before,
+        ))
+
+    pub exact_ends : now ≡ cycles * network.cycle → IsBridgeRun network plan.offsets gates cycles run
+    exact_ends at_end = record {
+      wires_shared = so_far.wires_shared;
+      uses_begin = omega arith;
+      background_length = so_far.background_length;
+      background_open = so_far.background_open;
+      passages = so_far.passages;
+      once = so_far.once;
+      ready = λ k d below.
+          let found = so_far.begun_ready k d below in
+          let turn = turn_exact (get_or run.scheduled k d).passage found.0 (so_far.passages k d below) found.1 in
+          let at = turn.0 in
+          (found.0, found.1, (let since = found.2 in omega arith));
+      fits = so_far.fits;
+      waits = λ q due t passage is_ready since in_time none.
+          let turn = turn_exact q due passage is_ready in
+          let at = turn.0 in
+          blocked_exact q due t passage is_ready (so_far.waits q due t passage is_ready (omega arith) in_time (inl (omega arith)) none);
+    }
+
+  module _ (frames : List Frame) (tracked : IsTracked network plan cycles run frames) where
     -- a passage that is ready and hasn't started is a waiting frame's
-    record Found (q : Passage) (ready : ℕ) : Type 0 where
+    record Found (q : Passage) : Type 0 where
       number : ℕ
       below : number < length frames
       is : passage_of (frame_in frames number) ≡ q
-      ready_is : (frame_in frames number).ready ≡ ready
+      turn_is : turn_of (frame_in frames number) ≡ plan.turn q
       waits : Waits network (link_of network q) (frame_in frames number)
 
-    found : (q : Passage) (ready : ℕ) → IsPassage network cycles q → IsReady network offsets run q ready → ((s : ℕ) → StartedAt run q s → ⊥) → Found q ready
+    found : (q : Passage) (ready : ℕ) → IsPassage network cycles q → IsReady network plan.offsets run q ready → ((s : ℕ) → StartedAt run q s → ⊥) → Found q
     unfolding passage_of link_of
     found q ready passage is_ready never =
         let at = tracked.complete q.stream q.shift q.cycle passage.stream passage.sent passage.cycle in
@@ -166,7 +230,7 @@ module _ (network : Network) (formed : IsWellFormed network) (offsets : List ℕ
           number = at.0;
           below = at.1;
           is = is;
-          ready_is = ready_once q (frame_in frames at.0).ready ready (subst (λ (x : Passage). IsReady network offsets run x (frame_in frames at.0).ready) is (frame.ready below)) is_ready;
+          turn_is = sym (frame.turn below) ∙ ap plan.turn is;
           waits = record { waits = below; on = ap (λ (x : Passage). route_link network x.stream x.hop) is };
         }
 
@@ -174,25 +238,6 @@ module _ (network : Network) (formed : IsWellFormed network) (offsets : List ℕ
     unfolding passage_of
     frame_passage number below waits = let frame = tracked.each number below in
         record { stream = frame.stream; sent = frame.sent; cycle = frame.cycle; hop = waits }
-
-    -- a waiting frame other than the head is behind it
-    behind : (link : ℕ) (head number : ℕ) → IsHead network frames link (Some head) → number < length frames → Waits network link (frame_in frames number)
-        → (passage_of (frame_in frames number) ≡ passage_of (frame_in frames head) → ⊥)
-        → ((frame_in frames head).ready < (frame_in frames number).ready) ⊎ (((frame_in frames head).ready ≡ (frame_in frames number).ready) × ((frame_in frames head).stream < (frame_in frames number).stream))
-    unfolding passage_of
-    behind link head number (head_below, head_waits, first) below waits differ = elim (first number below waits) [
-      | inl sooner ↦ inl sooner
-      | inr (same, order) ↦ elim (cases_lt (frame_in frames head).stream (frame_in frames number).stream) [
-        | inl less ↦ inr (same, less)
-        | inr not_less ↦
-            let stream : (frame_in frames number).stream ≡ (frame_in frames head).stream = omega arith in
-            let h = frame_passage head head_below head_waits.waits in
-            let p = frame_passage number below waits.waits in
-            absurd (differ (readies_differ (passage_of (frame_in frames number)) (passage_of (frame_in frames head)) (frame_in frames number).ready p h
-            (waiting_link network link (frame_in frames number) waits ∙ sym (waiting_link network link (frame_in frames head) head_waits)) stream
-            ((tracked.each number below).ready waits.waits) (subst (IsReady network offsets run (passage_of (frame_in frames head))) same ((tracked.each head head_below).ready head_waits.waits))))
-      ]
-    ]
 
     frame_never : (number : ℕ) → number < length frames → (s : ℕ) → StartedAt run (passage_of (frame_in frames number)) s → ⊥
     unfolding passage_of
@@ -212,57 +257,57 @@ module _ (network : Network) (formed : IsWellFormed network) (offsets : List ℕ
     one_number a b a_below b_below is = tracked.distinct a b a_below b_below (ap (λ (x : Passage). x.stream) is) (ap (λ (x : Passage). x.shift) is)
         (ap (λ (x : Passage). x.cycle) is)
 
-    passage_order : (a b : Frame) → (a.ready < b.ready) ⊎ ((a.ready ≡ b.ready) × (a.stream < b.stream)) → (a.ready < b.ready) ⊎ ((a.ready ≡ b.ready) × ((passage_of a).stream < (passage_of b).stream))
-    unfolding passage_of
-    passage_order a b order = order
+    -- where a waiting frame's passage has the turn that the frame has
+    turn_here : (number : ℕ) → number < length frames → (frame_in frames number).hop < hop_count network (frame_in frames number).stream
+        → plan.turn (passage_of (frame_in frames number)) ≡ turn_of (frame_in frames number)
+    turn_here number below waits = (tracked.each number below).turn waits
 
-    order_at : (a b c : ℕ) (p q r : Passage) → b ≡ c → q ≡ r → (a < b) ⊎ ((a ≡ b) × (p.stream < q.stream)) → (a < c) ⊎ ((a ≡ c) × (p.stream < r.stream))
-    order_at a b c p q r ready is (inl sooner) = inl (omega arith)
-    order_at a b c p q r ready is (inr (same, less)) = inr (omega arith, subst (λ (x : Passage). p.stream < x.stream) is less)
-
-    blocked_by : (head : Option ℕ) (link t : ℕ) (q : Passage) (ready : ℕ) → IsPassage network cycles q → link_of network q ≡ link → Found q ready → ready ≤ t → IsHead network frames link head
+    blocked_by : (head : Option ℕ) (link t : ℕ) (q : Passage) → IsPassage network cycles q → link_of network q ≡ link → Found q → (plan.turn q).ready ≤ t
+        → IsHead network frames link head
         → ((number : ℕ) → head ≡ Some number → (frame_in frames number).ready ≤ t → FitsAt network gates (passage_of (frame_in frames number)) t → ⊥) → NotStartedBefore run q (t + 1)
-        → IsBlocked network offsets gates cycles run q ready t
-    blocked_by None link t q ready passage on at since none closed not_yet = absurd (none at.number at.below (subst (λ l. Waits network l (frame_in frames at.number)) on at.waits))
-    blocked_by (Some head) link t q ready passage on at since is_head closed not_yet =
+        → IsHeldUp network plan.offsets gates cycles plan.turn run q t
+    blocked_by None link t q passage on at since none closed not_yet = absurd
+        (none at.number at.below (subst (λ l. Waits network l (frame_in frames at.number)) on at.waits))
+    blocked_by (Some head) link t q passage on at since is_head closed not_yet =
         let waits = subst (λ l. Waits network l (frame_in frames at.number)) on at.waits in
         let head_below = is_head.0 in
         elim (cases_eq head at.number) [
           | inl same ↦
               let is : passage_of (frame_in frames head) ≡ q = ap (λ n. passage_of (frame_in frames n)) same ∙ at.is in
-              inl (λ fits. closed head refl (omega arith) (subst (λ x. FitsAt network gates x t) (sym is) fits))
-          | inr differ ↦ elim (passage_cases (passage_of (frame_in frames at.number)) (passage_of (frame_in frames head))) [
-            | inl is ↦ absurd (differ (sym (one_number at.number head at.below head_below is)))
-            | inr apart ↦
-                let order = behind link head at.number is_head at.below waits apart in
-                inr (inr (
-                  passage_of (frame_in frames head),
-                  (frame_in frames head).ready,
-                  frame_passage head head_below is_head.1.waits,
-                  record {
-                    same_link = waiting_link network link (frame_in frames head) is_head.1 ∙ sym on;
-                    ready = (tracked.each head head_below).ready is_head.1.waits;
-                    order = order_at (frame_in frames head).ready (frame_in frames at.number).ready ready (passage_of (frame_in frames head)) (passage_of (frame_in frames at.number)) q at.ready_is at.is (passage_order (frame_in frames head) (frame_in frames at.number) order);
-                  },
-                  λ s started. absurd (frame_never head head_below s started),
-                ))
-          ]
+              let turn : turn_of (frame_in frames head) ≡ plan.turn q = ap (λ n. turn_of (frame_in frames n)) same ∙ at.turn_is in
+              inl (λ fits. closed head refl (subst (λ (x : Turn). x.ready ≤ t) (sym turn) since) (subst (λ x. FitsAt network gates x t) (sym is) fits))
+          | inr differ ↦
+              let order = is_head.2 at.number at.below waits in
+              let due = (tracked.each head head_below).ready is_head.1.waits in
+              inr (inr (
+                passage_of (frame_in frames head),
+                due.0,
+                frame_passage head head_below is_head.1.waits,
+                (λ is. differ (one_number head at.number head_below at.below (is ∙ sym at.is))),
+                waiting_link network link (frame_in frames head) is_head.1 ∙ sym on,
+                due.1,
+                subst (λ x. Goes x (plan.turn q)) (sym (turn_here head head_below is_head.1.waits))
+                    (subst (Goes (turn_of (frame_in frames head))) at.turn_is order),
+                λ s started. absurd (frame_never head head_below s started),
+              ))
         ]
 
-    pub quiet_from_silent : (link t : ℕ) → now ≤ t → IsSilent network gates frames link t → IsQuiet network offsets gates cycles t run link
+    pub quiet_from_silent : (link t : ℕ) → now ≤ t → IsSilent network gates frames link t → IsQuiet network plan gates cycles t run link
     quiet_from_silent link t present silent = record {
       blocked = λ q ready passage on is_ready since none.
           let at = found q ready passage is_ready (λ s started. not_later q t s present none started) in
-          blocked_by silent.head link t q ready passage on at since silent.is_head silent.closed none;
+          blocked_by silent.head link t q passage on at since silent.is_head silent.closed none;
     }
 
     -- the head of a queue that fits is due
-    pub due_from_head : (link number t : ℕ) → now ≤ t → t < cycles * network.cycle → free link ≤ t → IsHead network frames link (Some number) → (frame_in frames number).ready ≤ t
-        → FitsAt network gates (passage_of (frame_in frames number)) t → IsDue network offsets gates cycles free t run (passage_of (frame_in frames number)) (frame_in frames number).ready
+    pub due_from_head : (link number t : ℕ) → now ≤ t → t < cycles * network.cycle → free link ≤ t → (head : IsHead network frames link (Some number))
+        → (frame_in frames number).ready ≤ t
+        → FitsAt network gates (passage_of (frame_in frames number)) t
+        → IsDue network plan gates cycles free t run (passage_of (frame_in frames number)) ((tracked.each number head.0).ready head.1.waits).0
     due_from_head link number t present in_time wire head since fits = record {
       passage_is = frame_passage number head.0 head.1.waits;
-      ready_at = (tracked.each number head.0).ready head.1.waits;
-      since = since;
+      ready_at = ((tracked.each number head.0).ready head.1.waits).1;
+      since = subst (λ (x : Turn). x.ready ≤ t) (sym (turn_here number head.0 head.1.waits)) since;
       unstarted = frame_never number head.0;
       wire = subst (λ l. free l ≤ t) (sym (waiting_link network link (frame_in frames number) head.1)) wire;
       in_time = in_time;
@@ -271,6 +316,6 @@ module _ (network : Network) (formed : IsWellFormed network) (offsets : List ℕ
           let at = found other other_ready passage ready (λ s started. not_later other t s present none started) in
           let on : link_of network other ≡ link = same ∙ waiting_link network link (frame_in frames number) head.1 in
           let waits = subst (λ l. Waits network l (frame_in frames at.number)) on at.waits in
-          order_at (frame_in frames number).ready (frame_in frames at.number).ready other_ready (passage_of (frame_in frames number)) (passage_of (frame_in frames at.number)) other at.ready_is at.is
-          (passage_order (frame_in frames number) (frame_in frames at.number) (behind link number at.number head at.below waits (λ is. differ (sym at.is ∙ is))));
+          subst (λ x. Goes x (plan.turn other)) (sym (turn_here number head.0 head.1.waits))
+          (subst (Goes (turn_of (frame_in frames number))) at.turn_is (head.2 at.number at.below waits));
     }

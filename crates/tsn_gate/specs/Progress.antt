@@ -1,16 +1,19 @@
 -- What a replay keeps from one start to the next.
+--     Turn, Plan      in which order frames start, and how early they may
 --     IsRunSoFar      what has started is a bridge run up to the present instant
 --     IsFrame, IsTracked      the frames that wait
 --     IsListSoFar, IsFedSoFar its background is what was handed in
 --     Setting, IsState        the whole state of a replay
 --     IsRenewed, IsSending, AreStarts      what its steps do, and what is left at its end
-use Rattle.std.specs.Prelude.{◌≡◌, ℕ, ◌+◌, ◌*◌, ◌≤◌, ◌<◌, ◌⊎◌, ◌≢◌, ◌-◌, List, [], length, slice_index_or, slice_set, max, sum_by, Bool, All, AllPairs, Option, Some, None}
+use Rattle.std.specs.Prelude.{◌≡◌, ℕ, ◌+◌, ◌*◌, ◌≤◌, ◌<◌, ◌⊎◌, ◌≢◌, ◌-◌, List, [], length, slice_index_or, slice_set, max, sum_by, Bool, All, AllPairs, Any, Option, Some, None}
 use Rattle.tsn_model.specs.Network.{Network, IsWellFormed, stream_count, hop_count, route_link, link_at}
-use Rattle.tsn_model.specs.Bridge.{LinkGates, BackgroundOpen, Passage, ScheduledStart, BackgroundStart, BridgeRun, WireUse, IsBridgeRun, IsFed, link_of, wire_uses, AreDisjoint, IsPassage, StartedAt, NotStartedBefore, IsReady, FitsAt, IsBlocked, IsTaken, IsHeld, Background, BackgroundFrame, frame_at, IsBefore, FrameStartedBefore}
+use Rattle.tsn_model.specs.Bridge.{LinkGates, BackgroundOpen, Passage, ScheduledStart, BackgroundStart, BridgeRun, WireUse, IsBridgeRun, IsFed, link_of, wire_uses, AreDisjoint, IsPassage, StartedAt, NotStartedBefore, IsReady, FitsAt, IsTaken, IsHeld, Background, BackgroundFrame, frame_at, IsBefore, FrameStartedBefore}
 use Rattle.tsn_gate.specs.declared.queue.Frame.{Frame}
 use Rattle.tsn_gate.specs.Queue.{AreInLine, AreAllVisits, passage_of, frame_in, free_on}
 use Rattle.tsn_model.specs.Timing.{hop_delay, Sends}
 use Rattle.tsn_model.specs.Bridge.Background.{nothing, greedy, frames}
+use Rattle.tsn_model.specs.Schedule.{offset_of}
+use Rattle.tsn_model.specs.Early.{IsEarlyRun}
 use Rattle.tsn_gate.specs.declared.feed.Waiting.{Waiting}
 use Rattle.tsn_gate.specs.declared.engine.State.{State}
 use Rattle.tsn_gate.specs.declared.engine.Replay.{Replay}
@@ -23,8 +26,40 @@ use Rattle.tsn_gate.specs.declared.port.Port.{Port}
 use Rattle.tsn_gate.specs.Ports.{IsPort, port_in}
 use Rattle.tsn_gate.specs.Bounds.{latest_end, latest_free, latest_instant}
 
+-- from when on a frame may start, and before which others that may from the same instant on
+pub record Turn : Type 0 where
+  pub ready : ℕ
+  pub rank : ℕ
+
+-- by readiness, then by rank
+abbrev pub Goes : Turn → Turn → Type 0
+Goes a b = (a.ready < b.ready) ⊎ ((a.ready ≡ b.ready) × (a.rank ≤ b.rank))
+
+-- the offsets, by how much frames may be ready early at most, and the turn of each passage that is ready so far
+pub record Plan : Type 0 where
+  pub offsets : List ℕ
+  pub slack : ℕ
+  pub turn : Passage → Turn
+
+abbrev pub with_turns : Plan → (Passage → Turn) → Plan
+with_turns plan turn = record plan { turn = turn }
+
+-- the turn of a passage that is to be ready at an instant; where no frame may be early ties go by stream
+pub record IsTurn (slack due stream : ℕ) (turn : Turn) : Type 0 where
+  pub upto : turn.ready ≤ due
+  pub since : due ≤ turn.ready + slack
+  pub exact : slack ≡ 0 → turn.rank ≡ stream
+
+-- why a passage that is ready can't start at instant t: the gate is closed or closes too soon, a frame that started before has the wire, or another frame whose turn is no later hasn't started before
+abbrev pub IsHeldUp : Network → List ℕ → List LinkGates → ℕ → (Passage → Turn) → BridgeRun → Passage → ℕ → Type 0
+IsHeldUp network offsets gates cycles turn run passage t =
+    (¬ FitsAt network gates passage t)
+    ⊎ Any (λ (wire : WireUse). (wire.link ≡ link_of network passage) × (wire.from < t) × (t < wire.until)) (wire_uses network run)
+    ⊎ ((other : Passage) × (due : ℕ) × IsPassage network cycles other × (other ≢ passage) × (link_of network other ≡ link_of network passage)
+    × IsReady network offsets run other due × Goes (turn other) (turn passage) × NotStartedBefore run other t)
+
 -- what has started is a bridge run up to instant `now`; each wire is taken from now on until it is free, and then by nobody
-pub record IsRunSoFar (network : Network) (offsets : List ℕ) (gates : List LinkGates) (cycles : ℕ) (free : ℕ → ℕ) (now : ℕ) (run : BridgeRun) : Type 0 where
+pub record IsRunSoFar (network : Network) (plan : Plan) (gates : List LinkGates) (cycles : ℕ) (free : ℕ → ℕ) (now : ℕ) (run : BridgeRun) : Type 0 where
   pub wires_shared : AllPairs AreDisjoint (wire_uses network run)
   pub uses_begin : All (λ (wire : WireUse). (wire.from ≤ now) × (wire.from < cycles * network.cycle)) (wire_uses network run)
   pub uses_end : All (λ (wire : WireUse). wire.until ≤ free wire.link) (wire_uses network run)
@@ -33,10 +68,15 @@ pub record IsRunSoFar (network : Network) (offsets : List ℕ) (gates : List Lin
   pub background_open : All (λ (begun : BackgroundStart). BackgroundOpen gates begun.link begun.time) run.background
   pub passages : All (λ (begun : ScheduledStart). IsPassage network cycles begun.passage) run.scheduled
   pub once : (passage : Passage) (s t : ℕ) → StartedAt run passage s → StartedAt run passage t → s ≡ t
-  pub ready : All (λ (begun : ScheduledStart). (t : ℕ) × IsReady network offsets run begun.passage t × (t ≤ begun.time)) run.scheduled
+  pub turns : (passage : Passage) (due : ℕ) → IsPassage network cycles passage → IsReady network plan.offsets run passage due
+      → IsTurn plan.slack due passage.stream (plan.turn passage)
+  pub begun_ready : All (λ (begun : ScheduledStart). (due : ℕ) × IsReady network plan.offsets run begun.passage due
+      × ((plan.turn begun.passage).ready ≤ begun.time)) run.scheduled
   pub fits : All (λ (begun : ScheduledStart). FitsAt network gates begun.passage begun.time) run.scheduled
-  pub waits : (passage : Passage) (ready t : ℕ) → IsPassage network cycles passage → IsReady network offsets run passage ready → ready ≤ t → t < cycles * network.cycle
-      → (t < now) ⊎ (t < free (link_of network passage)) → NotStartedBefore run passage (t + 1) → IsBlocked network offsets gates cycles run passage ready t
+  pub waits : (passage : Passage) (due t : ℕ) → IsPassage network cycles passage → IsReady network plan.offsets run passage due
+      → (plan.turn passage).ready ≤ t → t < cycles * network.cycle
+      → (t < now) ⊎ (t < free (link_of network passage)) → NotStartedBefore run passage (t + 1)
+      → IsHeldUp network plan.offsets gates cycles plan.turn run passage t
 
 -- greedy background up to instant `now`: no instant passed at which a background frame could have started
 pub record IsGreedySoFar (network : Network) (gates : List LinkGates) (cycles : ℕ) (free : ℕ → ℕ) (now : ℕ) (run : BridgeRun) : Type 0 where
@@ -44,42 +84,54 @@ pub record IsGreedySoFar (network : Network) (gates : List LinkGates) (cycles : 
   pub held : (t : ℕ) → t < cycles * network.cycle → All (λ (item : LinkGates). (t < now) ⊎ (t < free item.link) → IsHeld network gates run item.link t) gates
 
 -- the passage can start at instant `now`, and is first in its link's queue
-pub record IsDue (network : Network) (offsets : List ℕ) (gates : List LinkGates) (cycles : ℕ) (free : ℕ → ℕ) (now : ℕ) (run : BridgeRun) (passage : Passage) (ready : ℕ) : Type 0 where
+pub record IsDue (network : Network) (plan : Plan) (gates : List LinkGates) (cycles : ℕ) (free : ℕ → ℕ) (now : ℕ) (run : BridgeRun) (passage : Passage)
+    (due : ℕ) : Type 0 where
   pub passage_is : IsPassage network cycles passage
-  pub ready_at : IsReady network offsets run passage ready
-  pub since : ready ≤ now
+  pub ready_at : IsReady network plan.offsets run passage due
+  pub since : (plan.turn passage).ready ≤ now
   pub unstarted : (s : ℕ) → StartedAt run passage s → ⊥
   pub wire : free (link_of network passage) ≤ now
   pub in_time : now < cycles * network.cycle
   pub fits : FitsAt network gates passage now
-  pub first : (other : Passage) (other_ready : ℕ) → IsPassage network cycles other → link_of network other ≡ link_of network passage → IsReady network offsets run other other_ready
-      → NotStartedBefore run other (now + 1) → (other ≡ passage → ⊥) → (ready < other_ready) ⊎ ((ready ≡ other_ready) × (passage.stream < other.stream))
+  pub first : (other : Passage) (other_due : ℕ) → IsPassage network cycles other → link_of network other ≡ link_of network passage
+      → IsReady network plan.offsets run other other_due
+      → NotStartedBefore run other (now + 1) → (other ≡ passage → ⊥) → Goes (plan.turn passage) (plan.turn other)
 
 -- at instant `now` no scheduled frame can start on the link
-pub record IsQuiet (network : Network) (offsets : List ℕ) (gates : List LinkGates) (cycles : ℕ) (now : ℕ) (run : BridgeRun) (link : ℕ) : Type 0 where
-  pub blocked : (passage : Passage) (ready : ℕ) → IsPassage network cycles passage → link_of network passage ≡ link → IsReady network offsets run passage ready → ready ≤ now
-      → NotStartedBefore run passage (now + 1) → IsBlocked network offsets gates cycles run passage ready now
+pub record IsQuiet (network : Network) (plan : Plan) (gates : List LinkGates) (cycles : ℕ) (now : ℕ) (run : BridgeRun) (link : ℕ) : Type 0 where
+  pub blocked : (passage : Passage) (due : ℕ) → IsPassage network cycles passage → link_of network passage ≡ link
+      → IsReady network plan.offsets run passage due → (plan.turn passage).ready ≤ now
+      → NotStartedBefore run passage (now + 1) → IsHeldUp network plan.offsets gates cycles plan.turn run passage now
 
 -- a background frame can start on the link at instant `now`, and no scheduled one
-pub record IsBackgroundDue (network : Network) (offsets : List ℕ) (gates : List LinkGates) (cycles : ℕ) (free : ℕ → ℕ) (now : ℕ) (run : BridgeRun) (link : ℕ) : Type 0 where
+pub record IsBackgroundDue (network : Network) (plan : Plan) (gates : List LinkGates) (cycles : ℕ) (free : ℕ → ℕ) (now : ℕ) (run : BridgeRun)
+    (link : ℕ) : Type 0 where
   pub wire : free link ≤ now
   pub in_time : now < cycles * network.cycle
   pub opened : BackgroundOpen gates link now
-  pub quiet : IsQuiet network offsets gates cycles now run link
+  pub quiet : IsQuiet network plan gates cycles now run link
+
+-- from when on a frame may start next, and before which others
+abbrev pub turn_of : Frame → Turn
+turn_of frame = record { ready = frame.ready; rank = frame.rank }
+
+abbrev pub with_turn : Frame → Turn → Frame
+with_turn frame turn = record frame { ready = turn.ready; rank = turn.rank }
 
 -- a frame has started on the hops before its own, and from `ready` on waits for that one, if its route has it
-pub record IsFrame (network : Network) (offsets : List ℕ) (cycles : ℕ) (run : BridgeRun) (frame : Frame) : Type 0 where
+pub record IsFrame (network : Network) (plan : Plan) (cycles : ℕ) (run : BridgeRun) (frame : Frame) : Type 0 where
   pub stream : frame.stream < stream_count network
   pub sent : Sends network frame.stream frame.shift
   pub cycle : frame.cycle < cycles
   pub hop : frame.hop ≤ hop_count network frame.stream
   pub started : (k : ℕ) → k < frame.hop → (s : ℕ) × StartedAt run (record { stream = frame.stream; shift = frame.shift; cycle = frame.cycle; hop = k }) s
   pub unstarted : (k s : ℕ) → frame.hop ≤ k → StartedAt run (record { stream = frame.stream; shift = frame.shift; cycle = frame.cycle; hop = k }) s → ⊥
-  pub ready : frame.hop < hop_count network frame.stream → IsReady network offsets run (passage_of frame) frame.ready
+  pub ready : frame.hop < hop_count network frame.stream → (due : ℕ) × IsReady network plan.offsets run (passage_of frame) due
+  pub turn : frame.hop < hop_count network frame.stream → plan.turn (passage_of frame) ≡ turn_of frame
 
 -- there is one frame for each frame that a stream sends in each cycle
-pub record IsTracked (network : Network) (offsets : List ℕ) (cycles : ℕ) (run : BridgeRun) (frames : List Frame) : Type 0 where
-  pub each : (number : ℕ) → number < length frames → IsFrame network offsets cycles run (frame_in frames number)
+pub record IsTracked (network : Network) (plan : Plan) (cycles : ℕ) (run : BridgeRun) (frames : List Frame) : Type 0 where
+  pub each : (number : ℕ) → number < length frames → IsFrame network plan cycles run (frame_in frames number)
   pub complete : (stream shift cycle : ℕ) → stream < stream_count network → Sends network stream shift → cycle < cycles
       → (number : ℕ) × (number < length frames) × ((frame_in frames number).stream ≡ stream) × ((frame_in frames number).shift ≡ shift) × ((frame_in frames number).cycle ≡ cycle)
   pub distinct : (a b : ℕ) → a < length frames → b < length frames → (frame_in frames a).stream ≡ (frame_in frames b).stream → (frame_in frames a).shift ≡ (frame_in frames b).shift
@@ -88,6 +140,31 @@ pub record IsTracked (network : Network) (offsets : List ℕ) (cycles : ℕ) (ru
 -- the frame once it has started at an instant
 abbrev pub advanced : Network → Frame → ℕ → Frame
 advanced network frame time = record frame { hop = frame.hop + 1; ready = time + hop_delay network frame.stream (route_link network frame.stream frame.hop) }
+
+-- the frame of that number, which is to be ready at an instant, has its turn: no sooner than another instant, and behind the frame before it where this one is of the same stream and on the same hop
+pub record HasTurn (network : Network) (slack : ℕ) (frames : List Frame) (number : ℕ) (frame : Frame) (soonest : ℕ) (turned : Frame) : Type 0 where
+  pub is : turned ≡ with_turn frame (turn_of turned)
+  pub turn : IsTurn slack frame.ready frame.stream (turn_of turned)
+  pub least : soonest ≤ turned.ready
+  pub behind : frame.hop < hop_count network frame.stream → (before : ℕ) → number ≡ before + 1 → (frame_in frames before).stream ≡ frame.stream
+      → (frame_in frames before).hop ≡ frame.hop → (frame_in frames before).ready < turned.ready
+
+-- before any start each passage on its first hop has its turn when it is planned
+abbrev pub first_turn : Network → List ℕ → Passage → Turn
+first_turn network offsets passage = record { ready = passage.cycle * network.cycle + offset_of offsets passage.stream + passage.shift; rank = passage.stream }
+
+-- all frames are on their first hop, and those from that number on ready when planned
+pub record AreFirst (network : Network) (offsets : List ℕ) (number : ℕ) (frames : List Frame) : Type 0 where
+  pub hops : (k : ℕ) → k < length frames → (frame_in frames k).hop ≡ 0
+  pub planned : (k : ℕ) → number ≤ k → k < length frames
+      → (frame_in frames k).ready ≡ (frame_in frames k).cycle * network.cycle + offset_of offsets (frame_in frames k).stream + (frame_in frames k).shift
+
+-- the frames before any start, and the turns of their passages
+pub record AreBegun (network : Network) (offsets : List ℕ) (slack cycles : ℕ) (run : BridgeRun) (frames : List Frame) : Type 0 where
+  pub turn : Passage → Turn
+  pub tracked : IsTracked network (record { offsets = offsets; slack = slack; turn = turn }) cycles run frames
+  pub turns : (passage : Passage) (due : ℕ) → IsPassage network cycles passage → IsReady network offsets run passage due
+      → IsTurn slack due passage.stream (turn passage)
 
 -- a list's background up to instant `now`: each of its frames once, in line, from its wanted start on, and none waited that could start
 pub record IsListSoFar (network : Network) (gates : List LinkGates) (cycles : ℕ) (list : List BackgroundFrame) (free : ℕ → ℕ) (now : ℕ) (run : BridgeRun) : Type 0 where
@@ -112,9 +189,10 @@ pub record Setting : Type 0 where
   pub cycles : ℕ
   pub background : Background
   pub keeps : Bool
+  pub slack : ℕ
 
 abbrev pub setting_of : Replay → Setting
-setting_of replay = record { network = replay.network.now; offsets = replay.offsets.now; gates = replay.gates.now; cycles = replay.cycles; background = background_of replay.background.now; keeps = replay.keeps }
+setting_of replay = record { network = replay.network.now; offsets = replay.offsets.now; gates = replay.gates.now; cycles = replay.cycles; background = background_of replay.background.now; keeps = replay.keeps; slack = replay.slack }
 
 -- it can be replayed
 pub record IsSetting (setting : Setting) : Type 0 where
@@ -123,6 +201,7 @@ pub record IsSetting (setting : Setting) : Type 0 where
   pub small : All (λ offset. offset ≤ setting.network.cycle) setting.offsets
   pub spaced : AreSpaced setting.network
   pub few : setting.cycles ≤ 16
+  pub short : setting.slack ≤ 1000000
   pub lists : HasLists setting.network setting.gates
   pub background : HasBackground setting.network setting.gates setting.background
 
@@ -133,9 +212,11 @@ pub record IsUnderWay (setting : Setting) (state : State) : Type 0 where
   pub small : state.end ≤ latest_end
   pub made : BridgeRun
   pub records : IsRecord setting.keeps made state.starts
-  pub run : IsRunSoFar setting.network setting.offsets setting.gates setting.cycles (free_on state.free.items) state.time made
+  pub turn : Passage → Turn
+  pub run : IsRunSoFar setting.network (record { offsets = setting.offsets; slack = setting.slack; turn = turn }) setting.gates setting.cycles
+      (free_on state.free.items) state.time made
   pub fed : IsFedSoFar setting.network setting.gates setting.cycles (free_on state.free.items) state.time setting.background (waiting_on state.feed) made
-  pub tracked : IsTracked setting.network setting.offsets setting.cycles made state.frames.items
+  pub tracked : IsTracked setting.network (record { offsets = setting.offsets; slack = setting.slack; turn = turn }) setting.cycles made state.frames.items
   pub line : AreInLine setting.network setting.cycles state.frames.items
   pub feed : IsFeedOf setting.background (length setting.network.links) state.feed
   pub wires : length state.free.items ≡ length setting.network.links
@@ -175,11 +256,13 @@ pub record IsSending (setting : Setting) (state : State) (number : ℕ) (port : 
   pub few : (link_at setting.network sending.link).octet_time ≤ 800
   pub early : sending.until ≤ latest_free
 
--- the starts that are kept are those of a whole bridge run that the background feeds
+-- the starts that are kept are those of a whole run that the background feeds, in which frames are ready early by at most the slack
 pub record AreStarts (setting : Setting) (starts : BridgeRun) : Type 0 where
   pub made : BridgeRun
   pub records : IsRecord setting.keeps made starts
-  pub run : IsBridgeRun setting.network setting.offsets setting.gates setting.cycles made
+  pub ready : Passage → ℕ
+  pub early : IsEarlyRun setting.network setting.offsets setting.gates setting.cycles (λ link. setting.slack) ready made
+  pub exact : setting.slack ≡ 0 → IsBridgeRun setting.network setting.offsets setting.gates setting.cycles made
   pub fed : IsFed setting.network setting.gates setting.cycles setting.background made
 
 -- how long the wires are still free, all together

@@ -20,20 +20,20 @@ passage_of frame = record { stream = frame.stream; shift = frame.shift; cycle = 
 
 -- the frame of that number of the list
 unfoldable pub frame_in : List Frame → ℕ → Frame
-frame_in frames number = slice_index_or frames number (record { stream = 0; shift = 0; cycle = 0; hop = 0; ready = 0 })
+frame_in frames number = slice_index_or frames number (record { stream = 0; shift = 0; cycle = 0; hop = 0; ready = 0; rank = 0 })
 
 -- a frame that starts on its first hop so long after that instant
 abbrev pub fresh_frame : ℕ → ℕ → ℕ → ℕ → Frame
-fresh_frame stream cycle begin shift = record { stream = stream; shift = shift; cycle = cycle; hop = 0; ready = begin + shift }
+fresh_frame stream cycle begin shift = record { stream = stream; shift = shift; cycle = cycle; hop = 0; ready = begin + shift; rank = stream }
 
 -- the frame waits for its start on the link
 pub record Waits (network : Network) (link : ℕ) (frame : Frame) : Type 0 where
   pub waits : frame.hop < hop_count network frame.stream
   pub on : route_link network frame.stream frame.hop ≡ link
 
--- by readiness, then by stream
+-- by readiness, then by rank
 abbrev pub Precedes : Frame → Frame → Type 0
-Precedes a b = (a.ready < b.ready) ⊎ ((a.ready ≡ b.ready) × (a.stream ≤ b.stream))
+Precedes a b = (a.ready < b.ready) ⊎ ((a.ready ≡ b.ready) × (a.rank ≤ b.rank))
 
 -- of the first so many frames, the one that is first in the link's queue, if one waits there
 abbrev pub IsFirstOf : Network → List Frame → ℕ → ℕ → Option ℕ → Type 0

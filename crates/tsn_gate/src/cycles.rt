@@ -1,14 +1,17 @@
 //! The replay of cycles.
-ghost use Rattle.std.specs.Prelude.{◌≡◌, ◌≤◌, ◌<◌, ℕ, length, All, IfOk, IfErr};
+ghost use Rattle.std.specs.Prelude.{◌≡◌, ◌≤◌, ◌<◌, ℕ, length, false, All, IfOk, IfErr};
+ghost use Rattle.tsn_model.specs.Network.{IsWellFormed};
 ghost use Rattle.tsn_model.specs.Schedule.{IsValid};
-ghost use Rattle.tsn_model.specs.Bridge.{BridgeRun, IsBridgeRun, IsFed, StartsOnTime};
+ghost use Rattle.tsn_model.specs.Bridge.{BridgeRun, HasWantedGates, IsBridgeRun, IsFed, StartsOnTime};
+ghost use Rattle.tsn_model.specs.Early.{Tolerates};
 ghost use Rattle.tsn_model.specs.Kept.{KeepsWantedGates};
 ghost use Rattle.tsn_gate.specs.Feeding.{background_of};
 ghost use Rattle.tsn_gate.specs.Faults.{NamesLinks, KeepsLimits, HasReplayFault};
 ghost use Rattle.tsn_gate.specs.Progress.{IsSetting, AreStarts};
-ghost use Rattle.tsn_gate.specs.Rows.{AreRows};
-ghost use Rattle.tsn_gate.specs.Records.{IsReplayed, AreRowsOfRun};
+ghost use Rattle.tsn_gate.specs.Rows.{AreRows, is_late};
+ghost use Rattle.tsn_gate.specs.Records.{IsReplayed, AreRowsOfRun, AreRowsOfEarlyRun};
 
+use crate::alternation::Alternation;
 use crate::background::Background;
 use crate::conditions::first_fault;
 use crate::engine::Replay;
@@ -60,7 +63,7 @@ pub fn replay(
     ensures limits { IfOk result (λ _. KeepsLimits problem.now.network lists.now cycles (background_of background.now)) }
     ensures fault { IfErr result (HasReplayFault problem.now.network lists.now cycles (background_of background.now)) }
 {
-    replayed(alloc, problem, valid, lists, cycles, background, true)
+    replayed(alloc, problem, valid, lists, cycles, background, true, 0)
 }
 
 /// Replays cycles as `replay` does, and gives the rows alone. The starts of background frames aren't kept: the memory that
@@ -88,11 +91,51 @@ pub fn replay_rows(
     ensures limits { IfOk result (λ _. KeepsLimits problem.now.network lists.now cycles (background_of background.now)) }
     ensures fault { IfErr result (HasReplayFault problem.now.network lists.now cycles (background_of background.now)) }
 {
-    let trace = replayed(alloc, problem, valid, lists, cycles, background, false)?;
+    let trace = replayed(alloc, problem, valid, lists, cycles, background, false, 0)?;
     Ok(trace.into_table())
 }
 
-// A replay, in which the starts of background frames are kept or not.
+/// Replays cycles as `replay_rows` does, but with frames that are ready early, by so many nanoseconds: of those that are
+/// planned one after another on a link every second one, and in the next cycle the others. On its first link a frame is
+/// ready no sooner than at the replay's beginning, on a next one after its start on the link before, and on each behind the
+/// frames of its stream that were sent before. Of frames that are ready at one instant those that are early go first.
+///
+/// By the lists that the schedule asks for no row is late, where the schedule tolerates that frames are ready early by so much
+/// on each link.
+///
+/// # Errors
+///
+/// Those of `replay`.
+pub fn replay_early(
+    alloc: Global,
+    problem: &Problem,
+    valid: &Valid,
+    lists: &[GateList],
+    cycles: usize,
+    background: &Background,
+    slack: u64,
+) -> Result<ReplayTable, ReplayFault>
+    requires some { 1 ≤ cycles }
+    requires few { cycles ≤ 16 }
+    requires short { slack ≤ 1_000_000 }
+    requires valid { IsValid problem.now.network valid.now }
+    ensures rows { IfOk result (λ table. AreRowsOfEarlyRun problem.now.network valid.now lists.now cycles slack (background_of background.now) table) }
+    ensures named { IfOk result (λ table. All (λ (row : Row). row.stream < length problem.now.stream_names) table) }
+    ensures on_time { IfOk result (λ table. HasWantedGates problem.now.network valid.now lists.now → Tolerates problem.now.network valid.now (λ link. slack)
+        → All (λ row. is_late row ≡ false) table) }
+    ensures links { IfOk result (λ _. NamesLinks problem.now.network lists.now (background_of background.now)) }
+    ensures limits { IfOk result (λ _. KeepsLimits problem.now.network lists.now cycles (background_of background.now)) }
+    ensures fault { IfErr result (HasReplayFault problem.now.network lists.now cycles (background_of background.now)) }
+{
+    let trace = replayed(
+        alloc, problem, valid, lists, cycles, background, false, slack,
+    )?;
+    // The network is within its limits.
+    let _limits = problem.cycle();
+    Ok(trace.into_table())
+}
+
+// A replay, in which the starts of background frames are kept or not, and some frames are ready early.
 fn replayed(
     alloc: Global,
     problem: &Problem,
@@ -101,11 +144,13 @@ fn replayed(
     cycles: usize,
     background: &Background,
     keeps: bool,
+    slack: u64,
 ) -> Result<Trace, ReplayFault>
     requires some { 1 ≤ cycles }
     requires few { cycles ≤ 16 }
+    requires short { slack ≤ 1_000_000 }
     requires valid { IsValid problem.now.network valid.now }
-    ensures replayed { IfOk result (IsReplayed keeps problem.now.network valid.now lists.now cycles (background_of background.now)) }
+    ensures replayed { IfOk result (IsReplayed keeps slack problem.now.network valid.now lists.now cycles (background_of background.now)) }
     ensures named { IfOk result (λ trace. All (λ (row : Row). row.stream < length problem.now.stream_names) trace.rows) }
     ensures on_time { IfOk result (λ _. KeepsWantedGates problem.now.network valid.now lists.now
         → (count : ℕ) (run : BridgeRun) → IsBridgeRun problem.now.network valid.now lists.now count run → StartsOnTime problem.now.network valid.now count run) }
@@ -120,10 +165,30 @@ fn replayed(
     let _limits = problem.cycle();
     let timing = problem.timing();
     let offsets = valid.offsets();
-    let starts = starts_by(alloc, timing, offsets, lists, cycles, background, keeps)?;
+    let early = early_by(alloc, timing, offsets, slack)?;
+    let starts = starts_by(
+        alloc, timing, offsets, lists, cycles, background, keeps, slack, &early,
+    )?;
     let _names = problem.streams();
     let rows = rows_of(alloc, timing, offsets, cycles, &starts)?;
     Ok(Trace::new(starts, ReplayTable::new(rows)))
+}
+
+// Which frames are early, where some are.
+fn early_by(
+    alloc: Global,
+    timing: &Timing,
+    offsets: &[u64],
+    slack: u64,
+) -> Result<Alternation, AllocError>
+    requires formed { IsWellFormed timing.now }
+    requires valid { IsValid timing.now offsets.now }
+{
+    if slack == 0 {
+        Ok(Alternation::none(alloc))
+    } else {
+        Alternation::of(alloc, timing, offsets)
+    }
 }
 
 // What starts in the cycles.
@@ -135,9 +200,11 @@ fn starts_by(
     cycles: usize,
     background: &Background,
     keeps: bool,
+    slack: u64,
+    early: &Alternation,
 ) -> Result<Starts, AllocError>
-    requires { IsSetting (record { network = timing.now; offsets = offsets.now; gates = lists.now; cycles = cycles; background = background_of background.now; keeps = keeps }) }
-    ensures { IfOk result (AreStarts (record { network = timing.now; offsets = offsets.now; gates = lists.now; cycles = cycles; background = background_of background.now; keeps = keeps })) }
+    requires { IsSetting (record { network = timing.now; offsets = offsets.now; gates = lists.now; cycles = cycles; background = background_of background.now; keeps = keeps; slack = slack }) }
+    ensures { IfOk result (AreStarts (record { network = timing.now; offsets = offsets.now; gates = lists.now; cycles = cycles; background = background_of background.now; keeps = keeps; slack = slack })) }
 {
     let gates = openings_of(alloc, lists)?;
     let replay = Replay {
@@ -147,6 +214,8 @@ fn starts_by(
         cycles,
         background,
         keeps,
+        slack,
+        early,
     };
     replay.run(alloc)
 }

@@ -2,19 +2,20 @@
 ghost use Rattle.std.specs.Prelude.{◌≡◌, ◌≢◌, ◌≤◌, ◌<◌, ◌^◌, ℕ, length, max, All, AllPairs, IfOk, Some, None, slice_index_or};
 ghost use Rattle.tsn_model.specs.Network.{stream_count, hop_count, link_at};
 ghost use Rattle.tsn_model.specs.Bridge.{LinkGates};
-ghost use Rattle.tsn_gate.specs.Bounds.{latest_free};
+ghost use Rattle.tsn_gate.specs.Bounds.{latest_free, latest_instant};
 ghost use Rattle.tsn_gate.specs.Openings.{AreListNumbers};
-ghost use Rattle.tsn_gate.specs.Queue.{Waits, free_on};
-ghost use Rattle.tsn_gate.specs.Feeding.{waiting_on, HasLink};
+ghost use Rattle.tsn_gate.specs.Queue.{Waits, AreInLine, free_on};
+ghost use Rattle.tsn_gate.specs.Feeding.{waiting_on, no_start, HasLink};
 ghost use Rattle.tsn_gate.specs.Ports.{IsPort, IsFirstPort, port_in};
 ghost use Rattle.tsn_gate.specs.Records.{noted};
-ghost use Rattle.tsn_gate.specs.Progress.{setting_of, IsSetting, IsUnderWay, IsPortAt, IsState, IsRenewed, IsSending, AreStarts, time_left};
+ghost use Rattle.tsn_gate.specs.Progress.{setting_of, IsSetting, IsUnderWay, IsPortAt, IsState, IsRenewed, IsSending, AreBegun, AreStarts, time_left};
 
+use crate::alternation::Alternation;
 use crate::background::Background;
 use crate::feed::{Feed, Waiting};
 use crate::openings::Openings;
 use crate::port::{LinkQueue, Port};
-use crate::queue::{Frame, advance, frames_of};
+use crate::queue::{Frame, Haste, advance, frames_of, turned};
 use crate::starts::Starts;
 use crate::tournament::PortQueue;
 use crate::visits::{Visit, visits_of};
@@ -23,7 +24,8 @@ use tsn_model::bounds::OVERHEAD_OCTETS;
 use tsn_model::plain::PlainNetwork;
 
 /// What is replayed: the cycles of a network with these offsets (nanoseconds, one a stream), by gate control lists, each
-/// of its own link and one for each link that a stream uses; and whether the starts of background frames are kept.
+/// of its own link and one for each link that a stream uses; whether the starts of background frames are kept; and by how
+/// much frames are ready early (nanoseconds), and which.
 #[derive(Clone, Copy)]
 pub struct Replay<'a> {
     pub network: &'a PlainNetwork,
@@ -32,6 +34,8 @@ pub struct Replay<'a> {
     pub cycles: usize,
     pub background: &'a Background,
     pub keeps: bool,
+    pub slack: u64,
+    pub early: &'a Alternation,
 }
 
 /// A replay that is under way: its end and the present instant, in nanoseconds; the frames that wait or are still to come;
@@ -80,7 +84,7 @@ impl Replay<'_> {
         let mut state = State {
             end: self.cycles as u64 * self.network.cycle(),
             time: 0,
-            frames: frames_of(alloc, self.network, self.offsets, self.cycles)?,
+            frames: self.frames(alloc)?,
             free: vec![in alloc; 0u64; links]?,
             numbers: numbers_by_link(alloc, self.gates, links)?,
             visits: visits_of(alloc, self.network)?,
@@ -90,6 +94,23 @@ impl Replay<'_> {
         };
         self.renew_all(&mut state);
         Ok(state)
+    }
+
+    // The frames before any start.
+    fn frames(&self, alloc: Global) -> Result<Vec<Frame>, AllocError>
+        requires { IsSetting (setting_of self.now) }
+        ensures begun { IfOk result (λ frames. AreBegun self.now.network.now self.now.offsets.now self.now.slack self.now.cycles no_start frames.items) }
+        ensures line { IfOk result (λ frames. AreInLine self.now.network.now self.now.cycles frames.items) }
+        ensures ready { IfOk result (λ frames. All (λ (frame : Frame). frame.ready ≤ latest_instant) frames.items) }
+    {
+        let mut frames = frames_of(alloc, self.network, self.offsets, self.cycles)?;
+        for number in 0..frames.len() {
+            let frame = frames[number];
+            let haste = self.haste(&frame, 0);
+            let first = turned(self.network, &frames, number, frame, 0, haste);
+            frames[number] = first;
+        }
+        Ok(frames)
     }
 
     fn renew_all(&self, state: &mut State)
@@ -173,13 +194,35 @@ impl Replay<'_> {
     {
         let link = self.gates[number].link();
         let frame = state.frames[waiting];
-        let moved = advance(self.network, &frame, time);
+        let haste = self.haste(&frame, frame.hop + 1);
+        let moved = advance(self.network, &state.frames, waiting, time, haste);
         state.starts.start(&frame, time)?;
         state.time = time;
         state.free[link] = time + self.network.occupancy(frame.stream, link);
         state.frames[waiting] = moved;
         self.renew(state, number, &moved);
         Ok(())
+    }
+
+    // Whether a frame is ready early on a hop.
+    fn haste(&self, frame: &Frame, hop: usize) -> Haste
+        requires setting { IsSetting (setting_of self.now) }
+        requires stream { frame.now.stream < stream_count self.now.network.now }
+        ensures { result.slack ≡ self.now.slack }
+    {
+        let early = self.slack > 0
+            && self.early.is_early(
+                self.network,
+                self.offsets,
+                frame.stream,
+                frame.shift,
+                frame.cycle,
+                hop,
+            );
+        Haste {
+            slack: self.slack,
+            early,
+        }
     }
 
     // The port of a list, and that of the link on which a frame waits now, anew.

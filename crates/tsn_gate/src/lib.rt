@@ -4,6 +4,7 @@
 //! Cycles of a network are replayed by such lists (`cycles`).
 #![tactic(auto)]
 
+mod alternation;
 pub mod background;
 mod conditions;
 mod csv;
@@ -38,7 +39,7 @@ mod widened;
 mod windows;
 
 pub use background::{Background, BackgroundFrame};
-pub use cycles::{replay, replay_rows};
+pub use cycles::{replay, replay_early, replay_rows};
 pub use device::{closed_lines, device_lines};
 pub use fault::GateFault;
 pub use format::text_in;

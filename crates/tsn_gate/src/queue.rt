@@ -6,13 +6,14 @@ ghost use Rattle.tsn_gate.specs.Frames.{AreSpaced};
 ghost use Rattle.tsn_gate.specs.Bounds.{latest_free, latest_instant};
 ghost use Rattle.tsn_gate.specs.Queue.{Precedes, IsHead, AreInLine, IsFirstAmong, IsFirstOnHop, IsVisit, AreVisits, frame_in, fresh_frame};
 ghost use Rattle.tsn_gate.specs.Feeding.{no_start};
-ghost use Rattle.tsn_gate.specs.Progress.{IsTracked, advanced};
+ghost use Rattle.tsn_gate.specs.Progress.{IsTracked, HasTurn, AreFirst, first_turn, advanced};
 
 use crate::visits::Visit;
 use std::alloc::{AllocError, Global};
 use tsn_model::plain::PlainNetwork;
 
-/// The frame of a stream's shift in a cycle: the hop on which it starts next, and from when on it may.
+/// The frame of a stream's shift in a cycle: the hop on which it starts next, from when on it may, and its rank among those
+/// that may from the same instant on.
 #[derive(Clone, Copy)]
 pub struct Frame {
     pub stream: usize,
@@ -20,6 +21,14 @@ pub struct Frame {
     pub cycle: usize,
     pub hop: usize,
     pub ready: u64,
+    pub rank: usize,
+}
+
+/// By how much frames may be ready early, and whether a frame is.
+#[derive(Clone, Copy)]
+pub struct Haste {
+    pub slack: u64,
+    pub early: bool,
 }
 
 /// Each frame of each cycle, on its first hop: by stream, and those of a stream by cycle, then shift.
@@ -33,7 +42,8 @@ pub fn frames_of(
     requires small { All (λ offset. offset ≤ network.now.cycle) offsets.now }
     requires few { cycles ≤ 16 }
     requires spaced { AreSpaced network.now }
-    ensures tracked { IfOk result (λ frames. IsTracked network.now offsets.now cycles no_start frames.items) }
+    ensures tracked { IfOk result (λ frames. (slack : ℕ) → IsTracked network.now (record { offsets = offsets.now; slack = slack; turn = first_turn network.now offsets.now }) cycles no_start frames.items) }
+    ensures first { IfOk result (λ frames. AreFirst network.now offsets.now 0 frames.items) }
     ensures line { IfOk result (λ frames. AreInLine network.now cycles frames.items) }
     ensures ready { IfOk result (λ frames. All (λ (frame : Frame). frame.ready ≤ latest_instant) frames.items) }
 {
@@ -69,28 +79,108 @@ fn push_cycle(
                 cycle,
                 hop: 0,
                 ready: begin + shift,
+                rank: stream,
             })?;
         }
     }
     Ok(())
 }
 
-/// The frame once it has started at that time.
-pub fn advance(network: &PlainNetwork, frame: &Frame, time: u64) -> Frame
-    requires stream { frame.now.stream < stream_count network.now }
-    requires hop { frame.now.hop < hop_count network.now frame.now.stream }
+/// The frame of that number once it has started at that time. On its next hop it is ready early or not, after its start, and
+/// behind the frame before it where this one is of the same stream and waits there.
+pub fn advance(
+    network: &PlainNetwork,
+    frames: &[Frame],
+    number: usize,
+    time: u64,
+    haste: Haste,
+) -> Frame
+    requires number { number < length frames.now }
+    requires stream { (frame_in frames.now number).stream < stream_count network.now }
+    requires hop { (frame_in frames.now number).hop < hop_count network.now (frame_in frames.now number).stream }
     requires time { time ≤ latest_free }
-    ensures value { result ≡ advanced network.now frame.now time }
+    requires short { haste.slack ≤ 1_000_000 }
+    requires sooner { (before : ℕ) → number ≡ before + 1 → (frame_in frames.now before).stream ≡ (frame_in frames.now number).stream
+        → (frame_in frames.now before).hop ≡ (frame_in frames.now number).hop + 1 → (frame_in frames.now number).hop + 1 < hop_count network.now (frame_in frames.now number).stream
+        → (frame_in frames.now before).ready < (advanced network.now (frame_in frames.now number) time).ready }
+    ensures turn { HasTurn network.now haste.slack frames.now number (advanced network.now (frame_in frames.now number) time) (time + 1) result }
     ensures ready { result.ready ≤ latest_instant }
 {
     let _limits = network.cycle();
+    let frame = frames[number];
     let link = network.route_link(frame.stream, frame.hop);
-    Frame {
+    let due = Frame {
         stream: frame.stream,
         shift: frame.shift,
         cycle: frame.cycle,
         hop: frame.hop + 1,
         ready: time + network.hop_delay(frame.stream, link),
+        rank: frame.rank,
+    };
+    turned(network, frames, number, due, time + 1, haste)
+}
+
+/// The frame of that number, which is to be ready at an instant, with its turn: early or not, no sooner than another instant,
+/// and behind the frame before it. Of frames that are ready at one instant those that are early go first.
+pub fn turned(
+    network: &PlainNetwork,
+    frames: &[Frame],
+    number: usize,
+    due: Frame,
+    least: u64,
+    haste: Haste,
+) -> Frame
+    requires number { number < length frames.now }
+    requires stream { due.stream < stream_count network.now }
+    requires least { least ≤ due.ready }
+    requires sooner { due.hop < hop_count network.now due.stream → (before : ℕ) → number ≡ before + 1 → (frame_in frames.now before).stream ≡ due.stream
+        → (frame_in frames.now before).hop ≡ due.hop → (frame_in frames.now before).ready < due.ready }
+    ensures { HasTurn network.now haste.slack frames.now number due least result }
+{
+    let advance = if haste.early { haste.slack } else { 0 };
+    let soonest = due.ready.saturating_sub(advance).max(least);
+    Frame {
+        stream: due.stream,
+        shift: due.shift,
+        cycle: due.cycle,
+        hop: due.hop,
+        ready: soonest.max(behind(network, frames, number, due)),
+        rank: rank_of(network, due.stream, haste),
+    }
+}
+
+// Where a stream's frame stands among those that are ready with it.
+fn rank_of(network: &PlainNetwork, stream: usize, haste: Haste) -> usize
+    requires { stream < stream_count network.now }
+    ensures { haste.slack ≡ 0 → result ≡ stream }
+{
+    // The network is within its limits, so it has few streams.
+    let _limits = network.cycle();
+    if haste.slack == 0 || haste.early {
+        stream
+    } else {
+        network.streams() + stream
+    }
+}
+
+// The instant after the frame before it is ready, where this one is of the same stream and waits on the same hop.
+fn behind(network: &PlainNetwork, frames: &[Frame], number: usize, due: Frame) -> u64
+    requires number { number < length frames.now }
+    requires stream { due.stream < stream_count network.now }
+    requires sooner { due.hop < hop_count network.now due.stream → (before : ℕ) → number ≡ before + 1 → (frame_in frames.now before).stream ≡ due.stream
+        → (frame_in frames.now before).hop ≡ due.hop → (frame_in frames.now before).ready < due.ready }
+    ensures upto { result ≤ due.ready }
+    ensures behind { due.hop < hop_count network.now due.stream → (before : ℕ) → number ≡ before + 1 → (frame_in frames.now before).stream ≡ due.stream
+        → (frame_in frames.now before).hop ≡ due.hop → (frame_in frames.now before).ready < result }
+{
+    if number == 0 || network.hops(due.stream) <= due.hop {
+        return 0;
+    }
+    let before = frames[number - 1];
+    if before.stream == due.stream && before.hop == due.hop {
+        before.ready + 1
+    } else {
+        0
     }
 }
 
@@ -99,7 +189,7 @@ fn precedes(a: &Frame, b: &Frame) -> bool
     ensures yes { IsTrue result → Precedes a.now b.now }
     ensures no { Precedes b.now a.now ⊎ IsTrue result }
 {
-    a.ready < b.ready || a.ready == b.ready && a.stream < b.stream
+    a.ready < b.ready || a.ready == b.ready && a.rank < b.rank
 }
 
 // Of the frames from a number on to another one the first that is on the hop. None is on a later hop than one before it.

@@ -107,11 +107,15 @@ gates =
     (number_option (codes "most") 1000000))
     (time_option (codes "least"))
 
--- replay NET PLAN [--cycles N] [--greedy] [--format FORMAT] [--merge NS]
+-- an option with by how much frames are early
+abbrev pub early_option : Rule
+early_option = record (new_rule (codes "early")) { long = Some (codes "early"); value_names = 1; action = Some Set; parser = Some (Unsigned 0 1000000) }
+
+-- replay NET PLAN [--cycles N] [--greedy] [--format FORMAT] [--merge NS] [--early NS]
 abbrev pub replay : App
 replay =
-    with_rule (with_rule (with_rule (with_rule (with_rule (with_rule (new_app (codes "replay")) (file (codes "NET"))) (file (codes "PLAN"))) (number_option (codes "cycles") 16)) (flag (codes "greedy")))
-    (word_option (codes "format"))) (time_option (codes "merge"))
+    with_rule (with_rule (with_rule (with_rule (with_rule (with_rule (with_rule (new_app (codes "replay")) (file (codes "NET"))) (file (codes "PLAN"))) (number_option (codes "cycles") 16)) (flag (codes "greedy")))
+    (word_option (codes "format"))) (time_option (codes "merge"))) early_option
 
 -- an option with a link's number
 abbrev pub link_option : Rule
@@ -225,12 +229,12 @@ IsGatesOf rows asked =
     (first_of (codes "NET") rows ≡ Some asked.network.now) × (first_of (codes "PLAN") rows ≡ Some asked.plan.now) × (gates_format (first_of (codes "format") rows) ≡ Some asked.format)
     × IsNumberIf (first_of (codes "merge") rows) asked.merge × IsNumberOr (first_of (codes "most") rows) 30 asked.most × IsNumberIf (first_of (codes "least") rows) asked.least
 
--- the files, the number, the flag, the format and the time of `replay`
+-- the files, the number, the flag, the format and the times of `replay`
 abbrev pub IsReplayOf : List Row → ReplayWords → Type 0
 IsReplayOf rows asked =
     (first_of (codes "NET") rows ≡ Some asked.network.now) × (first_of (codes "PLAN") rows ≡ Some asked.plan.now)
     × IsNumberOr (first_of (codes "cycles") rows) 1 asked.cycles × IsFlag (one_of (codes "greedy") rows) asked.greedy
-    × (replay_format (first_of (codes "format") rows) ≡ Some asked.format) × IsNumberIf (first_of (codes "merge") rows) asked.merge
+    × (replay_format (first_of (codes "format") rows) ≡ Some asked.format) × IsNumberIf (first_of (codes "merge") rows) asked.merge × IsNumberIf (first_of (codes "early") rows) asked.early
 
 -- the files, the numbers, the flag and the certificate of `chart`
 abbrev pub IsChartOf : List Row → ChartWords → Type 0

@@ -34,6 +34,9 @@ pub const MAX_UNTIL: usize = 1_000_000_000;
 /// The greatest time of an option of `gates` and `replay`, in nanoseconds.
 pub const MAX_TIME: u64 = 1_000_000_000;
 
+/// The greatest earliness of frames in a replay, in nanoseconds.
+pub const MAX_EARLY: u64 = 1_000_000;
+
 /// The most entries that a device may be said to take.
 pub const MAX_ENTRIES: usize = 1_000_000;
 
@@ -425,9 +428,12 @@ pub struct ReplayWords<'a> {
     pub format: ReplayFormat,
     /// In nanoseconds, 0 to `MAX_TIME`: entries of the lists are to last so long, if it is given.
     pub merge: Option<u64>,
+    /// In nanoseconds, 0 to `MAX_EARLY`: frames are ready so much sooner than planned, if it is given.
+    pub early: Option<u64>,
     pub ghost some: { 1 ≤ cycles },
     pub ghost few: { cycles ≤ 16 },
     pub ghost small: { ForSome merge (λ time. time ≤ 1000000000) },
+    pub ghost soon: { ForSome early (λ time. time ≤ 1000000) },
 }
 
 const REPLAY: Form = Form {
@@ -452,6 +458,11 @@ const REPLAY: Form = Form {
             help: "How it is printed: csv, or table if not given",
         },
         MERGE,
+        Argument {
+            name: "early",
+            takes: Takes::Number(0, MAX_EARLY, "0..1000000"),
+            help: "Let every second frame on a link be ready this much sooner than planned, in nanoseconds",
+        },
     ],
 };
 
@@ -473,6 +484,7 @@ impl<'a> ReplayWords<'a> {
             greedy: flag_of(words, "greedy"),
             format,
             merge: number_if(words, "merge", MAX_TIME),
+            early: number_if(words, "early", MAX_EARLY),
         }))
     }
 }

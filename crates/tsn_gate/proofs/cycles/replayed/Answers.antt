@@ -20,21 +20,23 @@ starts_by-requires c =
     let background = background_of c.args.background.now in
     let judged = subst (λ n. MatchOption c.first_fault.result (NamesLinks n c.args.lists.now background × KeepsLimits n c.args.lists.now c.args.cycles background) (HasReplayFault n c.args.lists.now c.args.cycles background)) c.deref.ensures c.first_fault.ensures in
     let right = no_fault c.args.problem.now.network c.args.lists.now c.args.cycles background c.first_fault.result c.in_default.not-Some judged in
-    let setting = setting_right (record { network = c.args.problem.now.network; offsets = c.args.valid.now; gates = c.args.lists.now; cycles = c.args.cycles; background = background; keeps = c.args.keeps }) formed c.requires.valid c.requires.few right.0 right.1 in
+    let setting = setting_right
+    (record { network = c.args.problem.now.network; offsets = c.args.valid.now; gates = c.args.lists.now; cycles = c.args.cycles; background = background; keeps = c.args.keeps; slack = c.args.slack }) formed c.requires.valid c.requires.few c.requires.short right.0 right.1 in
     let network = sym c.timing-timing.ensures in
     let offsets = sym c.offsets-offsets.ensures in
     let gates = c.args.lists.now in
-    subst IsSetting (λ i. record { network = network i; offsets = offsets i; gates = gates; cycles = c.args.cycles; background = background; keeps = c.args.keeps }) setting
+    subst IsSetting (λ i. record { network = network i; offsets = offsets i; gates = gates; cycles = c.args.cycles; background = background; keeps = c.args.keeps; slack = c.args.slack }) setting
 
 pub rows_of-requires-clause-once : goal.rows_of-requires-clause-once
 rows_of-requires-clause-once c passage s t one other =
     let are = c.in_ok-starts.ensures in
-    are.run.once passage s t (started_kept c.args.keeps are.made c.in_ok-starts.starts are.records passage s one) (started_kept c.args.keeps are.made c.in_ok-starts.starts are.records passage t other)
+    are.early.once passage s t (started_kept c.args.keeps are.made c.in_ok-starts.starts are.records passage s one)
+    (started_kept c.args.keeps are.made c.in_ok-starts.starts are.records passage t other)
 
 pub rows_of-requires-clause-passages : goal.rows_of-requires-clause-passages
 rows_of-requires-clause-passages c =
     let are = c.in_ok-starts.ensures in
-    subst (All (λ (begun : ScheduledStart). IsPassage c.timing-timing.result.now c.args.cycles begun.passage)) (sym are.records.scheduled) are.run.passages
+    subst (All (λ (begun : ScheduledStart). IsPassage c.timing-timing.result.now c.args.cycles begun.passage)) (sym are.records.scheduled) are.early.passages
 
 pub returns-clause-replayed : goal.returns-clause-replayed
 returns-clause-replayed c =
@@ -43,14 +45,14 @@ returns-clause-replayed c =
     let gates = c.args.lists.now in
     let background = background_of c.args.background.now in
     let starts = subst (λ setting. AreStarts setting c.in_ok-starts.starts)
-    (λ i. record { network = network i; offsets = offsets i; gates = gates; cycles = c.args.cycles; background = background; keeps = c.args.keeps })
+    (λ i. record { network = network i; offsets = offsets i; gates = gates; cycles = c.args.cycles; background = background; keeps = c.args.keeps; slack = c.args.slack })
     c.in_ok-starts.ensures in
     let table = c.in_ok-rows.rows.items in
     let timed = subst (λ n. AreRows n c.offsets-offsets.result.now c.args.cycles c.in_ok-starts.starts table) c.timing-timing.ensures c.in_ok-rows.ensures in
     let rows = subst (λ os. AreRows c.args.problem.now.network os c.args.cycles c.in_ok-starts.starts table) c.offsets-offsets.ensures timed in
     let trace : c.new-2.result ≡ record { run = c.in_ok-starts.starts; rows = c.in_ok-rows.rows.items } = c.new-2.ensures ∙ ap (λ table. record { run = c.in_ok-starts.starts; rows = table }) c.new.ensures in
-    subst (IsReplayed c.args.keeps c.args.problem.now.network c.args.valid.now c.args.lists.now c.args.cycles background) (sym trace)
-    (replayed_from (record { network = c.args.problem.now.network; offsets = c.args.valid.now; gates = c.args.lists.now; cycles = c.args.cycles; background = background; keeps = c.args.keeps }) c.in_ok-starts.starts c.in_ok-rows.rows.items starts rows)
+    subst (IsReplayed c.args.keeps c.args.slack c.args.problem.now.network c.args.valid.now c.args.lists.now c.args.cycles background) (sym trace)
+    (replayed_from (record { network = c.args.problem.now.network; offsets = c.args.valid.now; gates = c.args.lists.now; cycles = c.args.cycles; background = background; keeps = c.args.keeps; slack = c.args.slack }) c.in_ok-starts.starts c.in_ok-rows.rows.items starts rows)
 
 pub returns-clause-named : goal.returns-clause-named
 returns-clause-named c =

@@ -10,7 +10,7 @@ run-requires c =
     let gates = sym (c.deref.ensures.value ∙ c.in_ok-gates.ensures) in
     let background = background_of c.args.background.now in
     subst IsSetting
-    (λ i. record { network = network i; offsets = c.args.offsets.now; gates = gates i; cycles = c.args.cycles; background = background; keeps = c.args.keeps })
+    (λ i. record { network = network i; offsets = c.args.offsets.now; gates = gates i; cycles = c.args.cycles; background = background; keeps = c.args.keeps; slack = c.args.slack })
     c.requires
 
 pub returns : goal.returns
@@ -19,5 +19,5 @@ returns c =
     let gates = c.deref.ensures.value ∙ c.in_ok-gates.ensures in
     let background = background_of c.args.background.now in
     subst (λ setting. IfOk c.run.result (AreStarts setting))
-    (λ i. record { network = network i; offsets = c.args.offsets.now; gates = gates i; cycles = c.args.cycles; background = background; keeps = c.args.keeps })
+    (λ i. record { network = network i; offsets = c.args.offsets.now; gates = gates i; cycles = c.args.cycles; background = background; keeps = c.args.keeps; slack = c.args.slack })
     c.run.ensures

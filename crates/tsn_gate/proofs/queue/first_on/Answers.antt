@@ -21,7 +21,7 @@ reached : (frames : List Frame) (from to hop point : ℕ) → from ≤ to → to
     → Reached frames from to hop point
 reached frames from to hop point order within hops bound parts =
     let size = length-between frames from to within in
-    let none : Frame = record { stream = 0; shift = 0; cycle = 0; hop = 0; ready = 0 } in
+    let none : Frame = record { stream = 0; shift = 0; cycle = 0; hop = 0; ready = 0; rank = 0 } in
     record {
       passed = λ k below. subst (λ (f : Frame). hop < f.hop) (read_between frames from to hop within hops k none (omega arith))
           (ltb-true _ _ (parts.0 k none (omega arith) below));

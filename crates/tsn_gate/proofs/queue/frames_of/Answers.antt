@@ -5,8 +5,8 @@ use Rattle.tsn_model.specs.Timing.{shifts}
 use Rattle.tsn_gate.specs.declared.queue.Frame.{Frame}
 use Rattle.tsn_gate.specs.Queue.{AreInLine, fresh_frame}
 use Rattle.tsn_gate.specs.Feeding.{no_start}
-use Rattle.tsn_gate.specs.Progress.{IsTracked}
-use Rattle.tsn_gate.proofs.Fresh.{pieces_next, cycle_frames, stream_frames, frames_upto, fresh_tracked, fresh_line, fresh_early}
+use Rattle.tsn_gate.specs.Progress.{IsTracked, AreFirst, first_turn}
+use Rattle.tsn_gate.proofs.Fresh.{pieces_next, cycle_frames, stream_frames, frames_upto, fresh_tracked, fresh_first, fresh_line, fresh_early}
 use Rattle.tsn_gate.proofs.queue.frames_of.Goals as goal
 
 pub loop-cycle-init : goal.loop-cycle-init
@@ -50,11 +50,19 @@ loop-stream-preserved c =
     }
 
 pub returns-clause-tracked : goal.returns-clause-tracked
-returns-clause-tracked c =
+returns-clause-tracked c slack =
     let all : c.loop-stream.stream ≡ stream_count c.args.network.now = omega arith in
-    subst (IsTracked c.args.network.now c.args.offsets.now c.args.cycles no_start)
+    subst (IsTracked c.args.network.now
+    (record { offsets = c.args.offsets.now; slack = slack; turn = first_turn c.args.network.now c.args.offsets.now }) c.args.cycles no_start)
     (sym (c.loop-stream.invariant.so_far ∙ ap (frames_upto c.args.network.now c.args.offsets.now c.args.cycles) all))
-    (fresh_tracked c.args.network.now c.args.offsets.now c.args.cycles c.requires.spaced)
+    (fresh_tracked c.args.network.now c.args.offsets.now c.args.cycles c.requires.spaced slack)
+
+pub returns-clause-first : goal.returns-clause-first
+returns-clause-first c =
+    let all : c.loop-stream.stream ≡ stream_count c.args.network.now = omega arith in
+    subst (AreFirst c.args.network.now c.args.offsets.now 0)
+    (sym (c.loop-stream.invariant.so_far ∙ ap (frames_upto c.args.network.now c.args.offsets.now c.args.cycles) all))
+    (fresh_first c.args.network.now c.args.offsets.now c.args.cycles c.requires.spaced)
 
 pub returns-clause-line : goal.returns-clause-line
 returns-clause-line c =

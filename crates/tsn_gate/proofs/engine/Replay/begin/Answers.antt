@@ -24,16 +24,18 @@ renew_all-requires-clause-state c =
       small = omega arith;
       made = no_start;
       records = subst (IsRecord setting.keeps no_start) (sym c.new-2.ensures) (record { scheduled = refl; background = λ kept. refl });
-      run = no_run setting.network setting.offsets setting.gates setting.cycles c.in_ok-vec.field-0.items zero;
+      turn = c.in_ok-frames.ensures.begun.turn;
+      run = no_run setting.network
+          (record { offsets = setting.offsets; slack = setting.slack; turn = c.in_ok-frames.ensures.begun.turn }) setting.gates setting.cycles c.in_ok-vec.field-0.items zero c.in_ok-frames.ensures.begun.turns;
       fed = no_fed setting.network setting.gates setting.cycles c.in_ok-vec.field-0.items zero setting.background line first;
-      tracked = c.in_ok-frames_of.ensures.tracked;
-      line = c.in_ok-frames_of.ensures.line;
+      tracked = c.in_ok-frames.ensures.begun.tracked;
+      line = c.in_ok-frames.ensures.line;
       feed = subst (λ n. IsFeedOf setting.background n c.in_ok-of.field-0) c.links-links.ensures.value c.in_ok-of.ensures.feed;
       numbers = subst (λ n. AreListNumbers setting.gates n c.in_ok-numbers_by_link.field-0.items) c.links-links.ensures.value c.in_ok-numbers_by_link.ensures;
       visits = c.in_ok-visits_of.ensures;
       wires = ap length items ∙ (length-replicate c.links-links.result 0 ∙ c.links-links.ensures.value);
       frees = subst (All (λ time. time ≤ 2 ^ 40)) (sym items) (All-replicate (λ time. time ≤ 2 ^ 40) c.links-links.result 0 (omega arith));
-      readies = c.in_ok-frames_of.ensures.ready;
+      readies = c.in_ok-frames.ensures.ready;
     }
 
 pub new-requires : goal.new-requires
