@@ -10,7 +10,7 @@ use std::path::{Path, PathBuf};
 use std::rt::Files;
 use std::{fs, io};
 
-// The most links that a path leads through.
+// The most links that a path leads through, as Linux has it.
 const MOST_LINKS: usize = 40;
 
 // The longest name of a file that the name of an unfinished one is made of, in bytes.
@@ -90,10 +90,11 @@ fn is_one(left: &Metadata, right: &Metadata) -> bool {
     left.dev() == right.dev() && left.ino() == right.ino()
 }
 
-// The path that links lead to from this one, whether a file is there or not.
+// The path that links lead to from this one, whether a file is there or not. Behind the last link that it may lead through
+// it is looked once more whether that is one.
 fn follow<R: Files>(rt: &R, alloc: Global, path: &str) -> io::Result<PathBuf> {
     let mut path = PathBuf::from_str(alloc, path)?;
-    for _ in 0..MOST_LINKS {
+    for _ in 0..=MOST_LINKS {
         match fs::symlink_metadata(rt, path.as_path()) {
             Ok(metadata) if metadata.is_symlink() => path = step(rt, alloc, path.as_path())?,
             _ => return Ok(path),
