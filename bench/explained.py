@@ -105,7 +105,7 @@ class Words:
         return i, max(shift for shift in it.shifts if shift < it.period)
 
     def work(self, link, frames):
-        return sum(self.network.streams[i].occupancy[link] for i, _ in frames)
+        return sum(self.network.streams[i].kept[link] for i, _ in frames)
 
     def tail(self, link, frames):
         return min(self.network.streams[frame[0]].arrival - self.network.end(frame, link) for frame in frames)

@@ -19,11 +19,12 @@ class Link:
 
 @dataclass(frozen=True)
 class Hop:
-    """A link of a route: when a frame starts on it, counted from its start on the first, and how long it occupies it."""
+    """A link of a route: when a frame starts on it, counted from its start on the first, and how long it occupies and keeps it."""
 
     link: int
     start: int
     occupancy: int
+    kept: int
 
 
 @dataclass
@@ -42,6 +43,7 @@ class Stream:
 @dataclass
 class Network:
     cycle: int
+    slack: int
     links: list
     streams: list = field(default_factory=list)
 
@@ -54,7 +56,7 @@ def read(path):
 
 def network_of(said):
     """The network of a document that is known to be right."""
-    cycle = said["cycle"]
+    cycle, slack = said["cycle"], said.get("slack", 0)
     proc = {it["name"]: it.get("proc", 0) for it in said["node"]}
     number, links, delay = {}, [], []
     for it in said["link"]:
@@ -62,23 +64,24 @@ def network_of(said):
             number[ends] = len(links)
             links.append(Link(*ends, OCTET_TIME[it["mbps"]]))
             delay.append(it["prop"])
-    network = Network(cycle, links)
+    network = Network(cycle, slack, links)
     for it in said["stream"]:
         route = [number[pair] for pair in zip(it["route"], it["route"][1:])]
-        network.streams.append(stream_of(it, cycle, route, links, delay, proc))
+        network.streams.append(stream_of(it, cycle, slack, route, links, delay, proc))
     return network
 
 
-def stream_of(said, cycle, route, links, delay, proc):
+def stream_of(said, cycle, slack, route, links, delay, proc):
     """A stream with its times."""
     hops, start, arrival = [], 0, 0
     for link in route:
         octet_time = links[link].octet_time
-        hops.append(Hop(link, start, (said["octets"] + 20) * octet_time))
+        occupancy = (said["octets"] + 20) * octet_time
+        hops.append(Hop(link, start, occupancy, max(occupancy, slack + 1)))
         arrival = start + (said["octets"] + 8) * octet_time + delay[link]
         start = arrival + proc[links[link].end]
     period, burst = said.get("period", cycle), said.get("frames", 1)
-    pace = max(it.occupancy for it in hops)
+    pace = max(it.kept for it in hops)
     spread = (burst - 1) * pace
     return Stream(
         name=said["name"],
@@ -89,7 +92,7 @@ def stream_of(said, cycle, route, links, delay, proc):
         shifts=[turn * period + place * pace for turn in range(cycle // period) for place in range(burst)],
         latency=arrival,
         arrival=arrival + spread,
-        span=max([arrival + spread] + [it.start + spread + it.occupancy for it in hops]),
+        span=max([arrival + spread] + [it.start + spread + it.kept for it in hops]),
     )
 
 
@@ -100,10 +103,10 @@ def flowspan(network, offsets):
     return max(offset + it.arrival for offset, it in zip(offsets, network.streams))
 
 
-def frames_on(stream, offset, link):
-    """The shift, the begin and the end of each of a stream's frames on a link."""
+def frames_on(stream, offset, link, kept=False):
+    """The shift, the begin and the end of each of a stream's frames on a link; kept: the end of the time that it keeps others away."""
     return [
-        (shift, offset + shift + hop.start, offset + shift + hop.start + hop.occupancy)
+        (shift, offset + shift + hop.start, offset + shift + hop.start + (hop.kept if kept else hop.occupancy))
         for hop in stream.hops
         if hop.link == link
         for shift in stream.shifts
@@ -111,11 +114,11 @@ def frames_on(stream, offset, link):
 
 
 def overlaps(network, i, j, offsets):
-    """The link and the lag of each two frames of two streams, at these two offsets, that occupy a link at a common instant."""
+    """The link and the lag of each two frames of two streams, at these two offsets, that keep a link at a common instant."""
     left, right = network.streams[i], network.streams[j]
     for hop in left.hops:
-        for shift, begin, end in frames_on(left, offsets[0], hop.link):
-            for other, other_begin, other_end in frames_on(right, offsets[1], hop.link):
+        for shift, begin, end in frames_on(left, offsets[0], hop.link, kept=True):
+            for other, other_begin, other_end in frames_on(right, offsets[1], hop.link, kept=True):
                 if begin < other_end and other_begin < end:
                     yield hop.link, other - shift
 

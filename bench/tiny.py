@@ -1,5 +1,5 @@
 #!/usr/bin/env python3
-"""Tiny networks drawn at random, with periods and bursts, by the program and by trying every schedule.
+"""Tiny networks drawn at random, with periods, bursts and slacks, by the program and by trying every schedule.
 
 Usage: bench/tiny.py [--count N] [--seed N] [--lists N] [--changed N] [--bin PROGRAM] [--keep FOLDER]
 
@@ -89,7 +89,25 @@ def drawn_once(rng):
         octets = rng.choice(LENGTHS[step][:4] if rng.random() < 0.7 else LENGTHS[step])
         said["stream"].append({"name": f"t{at}", "octets": octets, "route": route_between(sender, receiver)})
     timed(said, step, rng)
+    if rng.random() < 0.3:
+        slackened(said, step, rng)
     return said, step
+
+
+def slackened(said, step, rng):
+    """Gives a network a slack, for which frames keep their links for a multiple of the step; less than each delay before another hop."""
+    longest = min((delay for it in said["stream"] for delay in delays_of(said, it)[:-1]), default=0) // step
+    if longest:
+        said["slack"] = step * rng.randint(1, min(longest, 30)) - 1
+
+
+def delays_of(said, stream):
+    """How long a stream's frame takes from its start on each link until the next node may start it."""
+    cable = {frozenset((it["a"], it["b"])): it for it in said["link"]}
+    proc = {it["name"]: it.get("proc", 0) for it in said["node"]}
+    pairs = list(zip(stream["route"], stream["route"][1:]))
+    links = [cable[frozenset(pair)] for pair in pairs]
+    return [(stream["octets"] + 8) * OCTET_TIME[it["mbps"]] + it["prop"] + proc[end] for it, (_, end) in zip(links, pairs)]
 
 
 def timed(said, step, rng):
@@ -119,7 +137,7 @@ def least_span(said, stream):
 
 def written(said, path):
     """Writes a network's file."""
-    lines = [f"cycle = {said['cycle']}"]
+    lines = [f"{key} = {said[key]}" for key in ("cycle", "slack") if key in said]
     for table in ("node", "link", "stream"):
         for it in said[table]:
             lines += [f"[[{table}]]"] + [f"{key} = {json.dumps(value)}" for key, value in it.items()]
@@ -407,6 +425,7 @@ class Look:
         first, others = first_optimal(network, step)
         self.tally["networks with a schedule" if first else "networks without"] += 1
         self.tally["frames"] += sum(len(it.shifts) for it in network.streams)
+        self.tally["networks with a slack"] += "slack" in said
         self.tally["networks with several frames of a stream"] += any(len(it.shifts) > 1 for it in network.streams)
         cert = self.try_plan(at, net, network, first, rng.choice(["file", "learn", "auto"]))
         self.try_lists(at, net, network, first, step, rng)

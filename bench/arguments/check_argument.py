@@ -59,7 +59,7 @@ class Network:
             way = {10: 800, 100: 80, 1000: 8}[cable["mbps"]], cable["prop"]
             links[cable["a"], cable["b"]] = 2 * number, *way
             links[cable["b"], cable["a"]] = 2 * number + 1, *way
-        self.streams = [Stream(it, nodes, links, self.cycle) for it in text["stream"]]
+        self.streams = [Stream(it, nodes, links, self.cycle, text.get("slack", 0)) for it in text["stream"]]
 
     def fault(self, offsets):
         """Whether these offsets are no valid schedule."""
@@ -72,7 +72,7 @@ class Network:
             for link, start in stream.start.items():
                 for shift in stream.shifts:
                     begin = offset + shift + start
-                    on.setdefault(link, []).append((begin, begin + stream.occupancy[link]))
+                    on.setdefault(link, []).append((begin, begin + stream.kept[link]))
         for windows in on.values():
             windows.sort()
             if any(before[1] > after[0] for before, after in zip(windows, windows[1:])):
@@ -104,7 +104,7 @@ class Network:
 
     def weight(self, i, j, link, lag=0):
         """By how much j starts behind i at least, where i goes before j on the link. The lag is the greater stream's less the lesser's."""
-        behind = self.streams[i].start[link] + self.streams[i].occupancy[link] - self.streams[j].start[link]
+        behind = self.streams[i].start[link] + self.streams[i].kept[link] - self.streams[j].start[link]
         return behind - lag if i < j else behind + lag
 
     def begin(self, frame, link):
@@ -113,23 +113,23 @@ class Network:
         return shift + self.streams[stream].start[link]
 
     def end(self, frame, link):
-        """When its occupancy of the link ends."""
-        return self.begin(frame, link) + self.streams[frame[0]].occupancy[link]
+        """Until when it keeps the link."""
+        return self.begin(frame, link) + self.streams[frame[0]].kept[link]
 
 
 class Stream:
-    def __init__(self, text, nodes, links, cycle):
+    def __init__(self, text, nodes, links, cycle, slack):
         self.release, self.latest = text.get("release", 0), text.get("latest", cycle)
         self.period, burst = text.get("period", cycle), text.get("frames", 1)
-        self.start, self.occupancy = {}, {}
+        self.start, self.kept = {}, {}
         route, at, ends = text["route"], 0, []
         for here, there in zip(route, route[1:]):
             link, octet, prop = links[here, there]
-            self.start[link], self.occupancy[link] = at, (text["octets"] + 20) * octet
-            ends.append(at + self.occupancy[link])
+            self.start[link], self.kept[link] = at, max((text["octets"] + 20) * octet, slack + 1)
+            ends.append(at + self.kept[link])
             self.arrival = at + (text["octets"] + 8) * octet + prop
             at = self.arrival + nodes[there].get("proc", 0)
-        pace = max(self.occupancy.values())
+        pace = max(self.kept.values())
         spread = (burst - 1) * pace
         self.shifts = {turn + place * pace for turn in range(0, cycle, self.period) for place in range(burst)}
         self.arrival += spread
@@ -530,7 +530,7 @@ class Checker:
         return max(view.high[frame[0]] + self.network.end(frame, link) for frame in frames)
 
     def work(self, link, frames):
-        return sum(self.network.streams[stream].occupancy[link] for stream, _ in frames)
+        return sum(self.network.streams[stream].kept[link] for stream, _ in frames)
 
     def placed(self, link, frame, others, some):
         """A frame, others and some of these, which are all right."""

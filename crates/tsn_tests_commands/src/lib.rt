@@ -7,6 +7,8 @@ mod arguments;
 #[cfg(test)]
 mod devices;
 #[cfg(test)]
+mod explained;
+#[cfg(test)]
 mod files;
 #[cfg(test)]
 mod gate_lists;

@@ -13,13 +13,13 @@ use std::rt::Files;
 /// The file that is made beside `plan` first; it is noted as `new`.
 const UNFINISHED: &str = "plan.tsn-unfinished-10";
 
-/// What is at the paths `plan` and `link`.
+/// What is at the path `plan`, and at the paths that are numbers: `1` is a link to `plan`, and each greater one to the next lower one.
 #[derive(Clone, Copy, PartialEq, Eq)]
 pub enum There {
     Nothing,
-    /// A file `plan`, which `link` leads to.
+    /// A file `plan`, which all links lead to.
     File,
-    /// A file that both paths open, and that neither names.
+    /// A file that all paths open, and that none names.
     Elsewhere,
 }
 
@@ -75,6 +75,21 @@ impl Notes {
 
 fn name_of(path: &str) -> &str {
     if path == UNFINISHED { "new" } else { path }
+}
+
+/// The number of a link.
+fn number_of(path: &str) -> Option<u32> {
+    path.parse().ok()
+}
+
+/// The permissions of a file that is made, which `OpenOptions` shows in its `Debug` alone.
+fn mode_of(alloc: Global, how: &OpenOptions) -> io::Result<u32> {
+    let shown = format!(in alloc; "{how:?}")?;
+    let mode = match shown.as_str().split_once("mode: ") {
+        Some((_, mode)) => mode.trim_end_matches(" }").parse().ok(),
+        None => None,
+    };
+    mode.ok_or(Error::from(ErrorKind::Unsupported))
 }
 
 /// A file system that is noted.
@@ -175,14 +190,14 @@ impl Files for NotedFiles {
     type Dir = NotedFile;
 
     fn open_file(&self, how: &OpenOptions, path: &str) -> io::Result<NotedFile> {
-        let verb = if how.asks_create_new() {
-            "make"
-        } else if how.asks_create() {
-            "create"
+        if how.asks_create_new() {
+            let mode = mode_of(self.notes.alloc, how)?;
+            let verb = format!(in self.notes.alloc; "make {mode:o}")?;
+            self.notes.note_path(verb.as_str(), path)?;
         } else {
-            "open"
-        };
-        self.notes.note_path(verb, path)?;
+            let verb = if how.asks_create() { "create" } else { "open" };
+            self.notes.note_path(verb, path)?;
+        }
         self.file()
     }
 
@@ -201,10 +216,10 @@ impl Files for NotedFiles {
         if self.notes.there != There::File {
             return Err(Error::from(ErrorKind::NotFound));
         }
-        if path == "link" {
-            return Ok(Metadata::of_symlink(4));
+        match number_of(path) {
+            Some(_) => Ok(Metadata::of_symlink(4)),
+            None => Ok(Metadata::of_file(4)),
         }
-        Ok(Metadata::of_file(4))
     }
 
     fn copy(&self, from: &str, to: &str) -> io::Result<u64> {
@@ -232,8 +247,15 @@ impl Files for NotedFiles {
         self.notes.note_path("remove folder", path)
     }
 
-    fn read_link<B: Allocator>(&self, alloc: B, _path: &str) -> io::Result<PathBuf<B>> {
-        Ok(PathBuf::from_str(alloc, "plan")?)
+    fn read_link<B: Allocator>(&self, alloc: B, path: &str) -> io::Result<PathBuf<B>> {
+        match number_of(path) {
+            Some(number) if number > 1 => {
+                let next = number - 1;
+                let name = format!(in self.notes.alloc; "{next}")?;
+                Ok(PathBuf::from_str(alloc, name.as_str())?)
+            }
+            _ => Ok(PathBuf::from_str(alloc, "plan")?),
+        }
     }
 
     fn chown(&self, path: &str, owner: Option<u32>, group: Option<u32>) -> io::Result<()> {

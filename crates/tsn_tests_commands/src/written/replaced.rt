@@ -93,24 +93,26 @@ fn expect_calls<R: Abort + AllocGlobal>(rt: &R, case: Case, wanted: &str) -> Res
     Ok(())
 }
 
-/// Over nothing, over an old file, by a link to it, and where the path leads to a file that it doesn't name: whether four bytes are
-/// written, and by which calls, where these fail.
+/// Over nothing, over an old file, by links to it (by 40 and by more), and where the path leads to a file that it doesn't name: whether
+/// four bytes are written, and by which calls, where these fail. While a file is made that replaces an old one nobody else may read it.
 const ROWS: &str = "\
-nothing plan, ended, = written by make new; remove new; make new; write 4; sync; rename new plan;
-file plan, ended, = written by open plan; make new; own new 0 0; mode 100644; remove new; make new; own new 0 0; mode 100644; write 4; sync; rename new plan;
-file link, ended, = written by open link; make new; own new 0 0; mode 100644; remove new; make new; own new 0 0; mode 100644; write 4; sync; rename new plan;
-file plan, ended, denied: own new 0 0 = written by open plan; make new; own new 0 0; mode 100644; remove new; make new; own new 0 0; mode 100644; write 4; sync; rename new plan;
+nothing plan, ended, = written by make 666 new; remove new; make 666 new; write 4; sync; rename new plan;
+file plan, ended, = written by open plan; make 600 new; own new 0 0; mode 100644; remove new; make 600 new; own new 0 0; mode 100644; write 4; sync; rename new plan;
+file 1, ended, = written by open 1; make 600 new; own new 0 0; mode 100644; remove new; make 600 new; own new 0 0; mode 100644; write 4; sync; rename new plan;
+file 40, ended, = written by open 40; make 600 new; own new 0 0; mode 100644; remove new; make 600 new; own new 0 0; mode 100644; write 4; sync; rename new plan;
+file 41, ended, = refused by open 41;
+file plan, ended, denied: own new 0 0 = written by open plan; make 600 new; own new 0 0; mode 100644; remove new; make 600 new; own new 0 0; mode 100644; write 4; sync; rename new plan;
 elsewhere plan, ended, = written by open plan; create plan; write 4;
-nothing plan, ended, exists: make new = written by make new; make plan.tsn-unfinished-11; remove plan.tsn-unfinished-11; make new; make plan.tsn-unfinished-11; write 4; sync; rename plan.tsn-unfinished-11 plan;
-nothing plan, ended, busy: rename new plan = written by make new; remove new; make new; write 4; sync; rename new plan; copy new plan; remove new;
-nothing plan, unended, = written by make new; remove new; make new; write 4; remove new;
-nothing plan, ended, denied: make new = refused by make new;
+nothing plan, ended, exists: make 666 new = written by make 666 new; make 666 plan.tsn-unfinished-11; remove plan.tsn-unfinished-11; make 666 new; make 666 plan.tsn-unfinished-11; write 4; sync; rename plan.tsn-unfinished-11 plan;
+nothing plan, ended, busy: rename new plan = written by make 666 new; remove new; make 666 new; write 4; sync; rename new plan; copy new plan; remove new;
+nothing plan, unended, = written by make 666 new; remove new; make 666 new; write 4; remove new;
+nothing plan, ended, denied: make 666 new = refused by make 666 new;
 file plan, ended, denied: open plan = refused by open plan;
-file plan, ended, denied: mode 100644 = refused by open plan; make new; own new 0 0; mode 100644; remove new;
-nothing plan, ended, denied: write 4 = refused by make new; remove new; make new; write 4; remove new;
-nothing plan, ended, denied: sync = refused by make new; remove new; make new; write 4; sync; remove new;
-nothing plan, ended, denied: rename new plan = refused by make new; remove new; make new; write 4; sync; rename new plan; remove new;
-nothing plan, ended, busy: rename new plan; copy new plan = refused by make new; remove new; make new; write 4; sync; rename new plan; copy new plan; remove new;";
+file plan, ended, denied: mode 100644 = refused by open plan; make 600 new; own new 0 0; mode 100644; remove new;
+nothing plan, ended, denied: write 4 = refused by make 666 new; remove new; make 666 new; write 4; remove new;
+nothing plan, ended, denied: sync = refused by make 666 new; remove new; make 666 new; write 4; sync; remove new;
+nothing plan, ended, denied: rename new plan = refused by make 666 new; remove new; make 666 new; write 4; sync; rename new plan; remove new;
+nothing plan, ended, busy: rename new plan; copy new plan = refused by make 666 new; remove new; make 666 new; write 4; sync; rename new plan; copy new plan; remove new;";
 
 #[test]
 fn files_are_put_into_their_places(rt: HostRuntime) -> Result<(), Fail> {
