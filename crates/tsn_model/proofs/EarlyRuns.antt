@@ -1,40 +1,72 @@
 -- In a run by gates of a valid schedule no scheduled frame is late, though frames may be ready early, and none is earlier than its lead.
-use Rattle.std.proofs.Common.{◌≡◌, ℕ, zero, suc, ◌+◌, ◌-◌, ◌*◌, ◌%◌, ◌≤◌, ◌<◌, ◌⊎◌, List, map, get_or, Contains, IsBitSet, bit_and, refl, sym, ap, ◌∙◌, subst, arith, inl, inr, mul-le-mul, add-mul, ◌/◌, ◌==◌, suc-ne-zero, eq-eqb, ne_eqb}
+use Rattle.std.proofs.Common.{◌≡◌, ℕ, zero, suc, ◌+◌, ◌-◌, ◌*◌, ◌%◌, ◌≤◌, ◌<◌, ◌⊎◌, List, [], ◌∷◌, map, length, get_or, Contains, IsBitSet, bit_and, refl, sym, ap, ◌∙◌, subst, arith, inl, inr, mul-le-mul, add-mul, ◌/◌, ◌==◌, suc-ne-zero, eq-eqb, ne_eqb, Bool, true, false, if◌then◌else◌, nat_lt, lt-ltb, le-ltb}
+use Rattle.std.specs.List.{range_with_len}
+use Rattle.std.proofs.lemmas.List.Sums.{position_or_len_is}
 use Rattle.std.proofs.lemmas.Nat.{mod-mul-add}
 use Rattle.std.proofs.Math.Nat.{mod-add-div'}
 use Rattle.std.proofs.lemmas.Bool.{cases_lt, cases_eq, cond-true, cond-false}
-use Rattle.std.proofs.lemmas.List.Elements.{All-contains, Contains-append_left, Contains-append_cases}
-use Rattle.tsn_model.specs.Network.{Network, IsWellFormed, hop_count, route_link, link_at}
+use Rattle.std.proofs.lemmas.List.Elements.{All-nil, All-cons, All-contains, Contains-append_left, Contains-append_cases}
+use Rattle.tsn_model.specs.Network.{Network, IsWellFormed, IsRoute, route_of, hop_count, route_link, link_at, from_at, IsSent, Continues}
 use Rattle.tsn_model.specs.Timing.{occupancy, separation, hop_delay, Sends, start, UsesLink}
 use Rattle.tsn_model.specs.Schedule.{IsValid, offset_of, FrameOccupies, FrameKeeps, Occupies, Keeps}
 use Rattle.tsn_model.specs.Gates.{IsOctetAt, InWindow, InGuard, IsWanted, guard_of}
 use Rattle.tsn_model.specs.Bridge.{LinkGates, BackgroundOpen, Passage, ScheduledStart, BackgroundStart, BridgeRun, WireUse, AreDisjoint, link_of, length_of, scheduled_use, background_use, wire_uses, IsPassage, StartedAt, NotStartedBefore, IsReady, FitsAt, HasWantedGates, planned}
 use Rattle.tsn_model.specs.Kept.{IsKept, KeepsWantedGates}
-use Rattle.tsn_model.specs.Early.{IsDelayed, IsEarlyRun, Tolerates, readiness, HoldsTo, ToleratesLead, StartsInTime}
-use Rattle.tsn_model.proofs.Lists.{Contains-map, from_map, pair_of}
-use Rattle.tsn_model.proofs.Routes.{use_of, UsesLink-counted, occupancy-pos, occupancy-le-separation, slack-lt-separation, separation-pos, start-more, start-zero, keeping-le-cycle, frames_apart}
-use Rattle.tsn_model.proofs.Hops.{passage_cases, started_cases, cycle_below, same_cycle, hop_uses, hop_start, hop_once, hop_delay-pos}
+use Rattle.tsn_model.specs.Early.{IsDelayed, IsEarlyRunWithout, IsEarlyRun, Tolerates, place_before, readiness, HoldsTo, HoldsToWithout, ToleratesLead, StartsInTime}
+use Rattle.tsn_model.specs.Failures.{IsIntact}
+use Rattle.tsn_model.proofs.Lists.{Contains-range, Contains-cons_cases, Contains-nil, Contains-head, Contains-more, Contains-map, from_map, pair_of}
+use Rattle.tsn_model.proofs.Branches.{follow_cases, continued_once, sent_alone, continues-before}
+use Rattle.tsn_model.proofs.Starts.{start-sent, start-continues}
+use Rattle.tsn_model.proofs.Routes.{use_of, UsesLink-counted, occupancy-pos, occupancy-le-separation, slack-lt-separation, separation-pos, keeping-le-cycle, frames_apart}
+use Rattle.tsn_model.proofs.Hops.{route_formed, passage_cases, started_cases, cycle_below, same_cycle, hop_uses, hop_start, hop_once, hop_delay-pos}
+
+-- ---- the link that a link continues
+
+module _ (network : Network) (route : List ℕ) (is : IsRoute network route) where
+  pub before_none : (k : ℕ) → IsSent network route k → place_before network route k ≡ length route
+  unfolding place_before
+  before_none k sent = position_or_len_is (λ link. (link_at network link).to == from_at network route k) route (length route) 0 (omega arith)
+      (λ j below. ne_eqb _ _ (λ continues. sent_alone network route is j k below continues sent)) (λ within. absurd (omega arith))
+
+  pub before_is : (j k : ℕ) → j < length route → k < length route → Continues network route j k → place_before network route k ≡ j
+  unfolding place_before
+  before_is j k j_below below continues = position_or_len_is (λ link. (link_at network link).to == from_at network route k) route j 0 (omega arith)
+      (λ other earlier. ne_eqb _ _ (λ too.
+      let same = continued_once network route is other j k (omega arith) j_below below too continues in omega arith)) (λ within. eq-eqb _ _ continues)
 
 -- ---- how early passages may be ready
 
-module _ (network : Network) (slack : ℕ → ℕ) (lead : Passage → ℕ) (p : Passage) where
-  pub readiness_first : p.hop ≡ 0 → readiness network slack lead p ≡ slack (link_of network p)
+module _ (network : Network) (slack : ℕ → ℕ) (lead : Passage → ℕ) (p : Passage) (route : IsRoute network (route_of network p.stream)) where
+  pub readiness_sent : IsSent network (route_of network p.stream) p.hop → readiness network slack lead p ≡ slack (link_of network p)
   unfolding readiness
-  readiness_first first = let none = cond-true (p.hop == 0) 0 (lead (record p { hop = p.hop - 1 })) (eq-eqb _ _ first) in omega arith
-
-  pub readiness_next : (k : ℕ) → p.hop ≡ k + 1 → readiness network slack lead p ≡ lead (record p { hop = k }) + slack (link_of network p)
-  unfolding readiness
-  readiness_next k next =
-      let some = cond-false (p.hop == 0) 0 (lead (record p { hop = p.hop - 1 })) (ne_eqb _ _ (λ none. omega arith)) in
-      let same : lead (record p { hop = p.hop - 1 }) ≡ lead (record p { hop = k }) = ap (λ h. lead (record p { hop = h })) (omega arith) in
+  readiness_sent sent =
+      let place = before_none network (route_of network p.stream) route p.hop sent in
+      let none = cond-false (nat_lt (place_before network (route_of network p.stream) p.hop) (hop_count network p.stream))
+      (lead (record p { hop = place_before network (route_of network p.stream) p.hop })) 0 (le-ltb _ _ (omega arith)) in
       omega arith
+
+  pub readiness_continues : (before : ℕ) → before < hop_count network p.stream → p.hop < hop_count network p.stream
+      → Continues network (route_of network p.stream) before p.hop
+      → readiness network slack lead p ≡ lead (record p { hop = before }) + slack (link_of network p)
+  unfolding readiness
+  readiness_continues before before_below below continues =
+      let place = before_is network (route_of network p.stream) route before p.hop before_below below continues in
+      let some = cond-true (nat_lt (place_before network (route_of network p.stream) p.hop) (hop_count network p.stream))
+      (lead (record p { hop = place_before network (route_of network p.stream) p.hop })) 0 (lt-ltb _ _ (omega arith)) in
+      let same : lead (record p { hop = place_before network (route_of network p.stream) p.hop }) ≡ lead (record p { hop = before }) =
+      ap (λ h. lead (record p { hop = h })) place in
+      omega arith
+
+either_same : (b : Bool) (n : ℕ) → (if b then n else n) ≡ n
+either_same true n = refl
+either_same false n = refl
 
 -- without a lead a passage is ready early by its own slack alone
 pub no_lead : (network : Network) (slack : ℕ → ℕ) (p : Passage) → readiness network slack (λ passage. 0) p ≡ slack (link_of network p)
-no_lead network slack p = elim (cases_eq p.hop 0) [
-  | inl first ↦ readiness_first network slack (λ passage. 0) p first
-  | inr later ↦ let next = readiness_next network slack (λ passage. 0) p (p.hop - 1) (omega arith) in omega arith
-]
+unfolding readiness
+no_lead network slack p =
+    let none = either_same (nat_lt (place_before network (route_of network p.stream) p.hop) (hop_count network p.stream)) 0 in
+    omega arith
 
 -- ---- passages and their planned windows
 
@@ -103,25 +135,26 @@ module _ (network : Network) (formed : IsWellFormed network) (offsets : List ℕ
       → Keeps network offsets p.stream (link_of network p) w
   keeps p passage w begun ends = record { shift = p.shift; sent = passage.sent; frame = frame_keeps p passage w begun ends }
 
-  -- what is planned for a hop is what is planned for the hop before it, and its delay
-  planned_next : (p : Passage) (before : ℕ) → IsPassage network cycles p → p.hop ≡ before + 1
+  -- what is planned for a hop is what is planned for the hop that it continues, and its delay
+  planned_next : (p : Passage) (before : ℕ) → IsPassage network cycles p → before < hop_count network p.stream
+      → Continues network (route_of network p.stream) before p.hop
       → planned network offsets p ≡ planned network offsets (record p { hop = before }) + hop_delay network p.stream (route_link network p.stream before)
   unfolding planned
-  planned_next p before passage next =
-      let more = start-more network p.stream before (omega arith) in
-      let same : start network p.stream p.hop ≡ start network p.stream (before + 1) = ap (start network p.stream) next in
+  planned_next p before passage below continues =
+      let more = start-continues network p.stream (route_formed network formed p.stream passage.stream) before p.hop below passage.hop continues in
       omega arith
 
-  planned_first : (p : Passage) → p.hop ≡ 0 → planned network offsets p ≡ p.cycle * network.cycle + offset_of offsets p.stream + p.shift
+  planned_first : (p : Passage) → IsPassage network cycles p → IsSent network (route_of network p.stream) p.hop
+      → planned network offsets p ≡ p.cycle * network.cycle + offset_of offsets p.stream + p.shift
   unfolding planned
-  planned_first p first =
-      let same : start network p.stream p.hop ≡ start network p.stream 0 = ap (start network p.stream) first in
-      let none = start-zero network p.stream in
+  planned_first p passage sent =
+      let none = start-sent network p.stream (route_formed network formed p.stream passage.stream) p.hop sent in
       omega arith
 
-  -- the passage on the hop before
-  passage_before : (p : Passage) (k : ℕ) → IsPassage network cycles p → p.hop ≡ k + 1 → IsPassage network cycles (record p { hop = k })
-  passage_before p k passage next = record { stream = passage.stream; sent = passage.sent; cycle = passage.cycle; hop = omega (arith, passage.hop) }
+  -- the passage on the link that it continues
+  passage_before : (p : Passage) (before : ℕ) → IsPassage network cycles p → before < hop_count network p.stream
+      → IsPassage network cycles (record p { hop = before })
+  passage_before p before passage below = record { stream = passage.stream; sent = passage.sent; cycle = passage.cycle; hop = below }
 
   in_run : (p : Passage) → IsPassage network cycles p → planned network offsets p < cycles * network.cycle
   in_run p passage =
@@ -327,10 +360,10 @@ module _ (network : Network) (formed : IsWellFormed network) (offsets : List ℕ
         guarded = omega arith;
       }
 
-  -- ---- runs in which frames may be ready early
+  -- ---- runs in which frames may be ready early, and links may have failed
 
-  module _ (gates : List LinkGates) (has : KeepsWantedGates network offsets gates) (slack : ℕ → ℕ) (ready : Passage → ℕ) (run : BridgeRun)
-      (is : IsEarlyRun network offsets gates cycles slack ready run) where
+  module _ (gates : List LinkGates) (has : KeepsWantedGates network offsets gates) (failed : List ℕ) (slack : ℕ → ℕ) (ready : Passage → ℕ) (run : BridgeRun)
+      (is : IsEarlyRunWithout failed network offsets gates cycles slack ready run) where
     started_passage : (p : Passage) (s : ℕ) → StartedAt run p s → IsPassage network cycles p
     started_passage p s at = All-contains (λ (begun : ScheduledStart). IsPassage network cycles begun.passage) run.scheduled _ is.passages at
 
@@ -409,33 +442,98 @@ module _ (network : Network) (formed : IsWellFormed network) (offsets : List ℕ
           | inr apart ↦ apart (sym same_link) u b_begun b_ends a_begun a_ends
         ]
 
+    -- a hop that started is one of the route
+    started_hop : (p : Passage) (before s : ℕ) → StartedAt run (record p { hop = before }) s → before < hop_count network p.stream
+    started_hop p before s at = (started_passage (record p { hop = before }) s at).hop
+
+    -- ---- whole ways
+
+    abbrev Intact : Passage → Type 0
+    Intact p = IsIntact failed network (route_of network p.stream) p.hop
+
+    not_failed : (p : Passage) → Intact p → Contains failed (link_of network p) → ⊥
+    unfolding link_of
+    not_failed p intact = All-contains (λ j. Contains failed (route_link network p.stream j) → ⊥) intact.way p.hop intact.whole intact.has
+
+    before_intact : (p : Passage) (before : ℕ) → Intact p → before < hop_count network p.stream → Continues network (route_of network p.stream) before p.hop
+        → Intact (record p { hop = before })
+    before_intact p before intact below continues = record { way = intact.way; has = intact.closed before p.hop below intact.has continues; closed = intact.closed; whole = intact.whole }
+
+    first_intact : (p : Passage) → IsPassage network cycles p → (Contains failed (link_of network p) → ⊥) → IsSent network (route_of network p.stream) p.hop
+        → Intact p
+    unfolding link_of
+    first_intact p passage whole sent = record {
+      way = p.hop ∷ [];
+      has = Contains-head p.hop [];
+      closed = λ j next below among continues. elim (Contains-cons_cases p.hop [] next among) [
+        | inl same ↦ absurd (sent_alone network (route_of network p.stream) (route_formed network formed p.stream passage.stream) j p.hop below
+            (subst (Continues network (route_of network p.stream) j) (sym same) continues) sent)
+        | inr none ↦ absurd (Contains-nil next none)
+      ];
+      whole = All-cons (λ j. Contains failed (route_link network p.stream j) → ⊥) p.hop [] whole
+          (All-nil (λ j. Contains failed (route_link network p.stream j) → ⊥));
+    }
+
+    more_intact : (p : Passage) (before : ℕ) → IsPassage network cycles p → (Contains failed (link_of network p) → ⊥) → before < hop_count network p.stream
+        → Continues network (route_of network p.stream) before p.hop → Intact (record p { hop = before }) → Intact p
+    unfolding link_of
+    more_intact p before passage whole below continues intact = record {
+      way = p.hop ∷ intact.way;
+      has = Contains-head p.hop intact.way;
+      closed = λ j next j_below among from_j. elim (Contains-cons_cases p.hop intact.way next among) [
+        | inl same ↦
+            let only = continued_once network (route_of network p.stream) (route_formed network formed p.stream passage.stream) before j p.hop below j_below passage.hop continues
+            (subst (Continues network (route_of network p.stream) j) (sym same) from_j) in
+            Contains-more p.hop intact.way j (subst (Contains intact.way) only intact.has)
+        | inr later ↦ Contains-more p.hop intact.way j (intact.closed j next j_below later from_j)
+      ];
+      whole = All-cons (λ j. Contains failed (route_link network p.stream j) → ⊥) p.hop intact.way whole intact.whole;
+    }
+
+    ready_intact : (p : Passage) (t : ℕ) → IsPassage network cycles p → (Contains failed (link_of network p) → ⊥) → IsReady network offsets run p t
+        → ((before s : ℕ) → before < p.hop → StartedAt run (record p { hop = before }) s → Intact (record p { hop = before })) → Intact p
+    ready_intact p t passage whole (inl (sent, at)) earlier = first_intact p passage whole sent
+    ready_intact p t passage whole (inr (before, s, continues, at, ready)) earlier =
+        let below = started_hop p before s at in
+        let order = continues-before network (route_of network p.stream) (route_formed network formed p.stream passage.stream) before p.hop below passage.hop continues in
+        more_intact p before passage whole below continues (earlier before s order at)
+
+    -- what started had a whole way
+    started_intact : (bound : ℕ) (p : Passage) (s : ℕ) → p.hop < bound → StartedAt run p s → Intact p
+    started_intact zero p s hop at = absurd (omega arith)
+    started_intact (suc bound) p s hop at =
+        let passage = started_passage p s at in
+        let whole = All-contains (λ (begun : ScheduledStart). Contains failed (link_of network begun.passage) → ⊥) run.scheduled _ is.silent at in
+        let due = begun_ready p s at in
+        ready_intact p due.0 passage whole due.1 (λ before u less early. started_intact bound (record p { hop = before }) u (omega arith) early)
+
     -- ---- no frame is late, and none earlier than its lead, by induction on the instant
 
-    module _ (lead : Passage → ℕ) (holds : HoldsTo network offsets gates slack lead) (tolerates : ToleratesLead network offsets slack lead) where
+    module _ (lead : Passage → ℕ) (holds : HoldsToWithout failed network offsets gates slack lead) (tolerates : ToleratesLead network offsets slack lead) where
       -- what starts before instant n is early by at most its lead
       abbrev NotEarlyBefore : ℕ → Type 0
       NotEarlyBefore n = (q : Passage) (s : ℕ) → StartedAt run q s → s < n → planned network offsets q ≤ s + lead q
 
-      -- what is planned before it starts by its planned instant
+      -- what is planned before it, and has a whole way, starts by its planned instant
       abbrev InTimeBefore : ℕ → Type 0
-      InTimeBefore n = (q : Passage) → IsPassage network cycles q → planned network offsets q < n → (s : ℕ) × StartedAt run q s ×
+      InTimeBefore n = (q : Passage) → IsPassage network cycles q → Intact q → planned network offsets q < n → (s : ℕ) × StartedAt run q s ×
           (s ≤ planned network offsets q)
 
       -- then what is ready by instant n is so early by at most the lead on the hop before and the slack
       ready_from : (n : ℕ) → NotEarlyBefore n → (p : Passage) (due : ℕ) → IsPassage network cycles p → IsReady network offsets run p due → ready p ≤ n
           → planned network offsets p ≤ ready p + readiness network slack lead p
       unfolding link_of
-      ready_from n not_early p due passage (inl (first, at)) by =
-          let plan = planned_first p first in
-          let sum = readiness_first network slack lead p first in
-          let early = is.early p due passage (inl (first, at)) in
+      ready_from n not_early p due passage (inl (sent, at)) by =
+          let plan = planned_first p passage sent in
+          let sum = readiness_sent network slack lead p (route_formed network formed p.stream passage.stream) sent in
+          let early = is.early p due passage (inl (sent, at)) in
           omega arith
-      ready_from n not_early p due passage (inr (before, s, next, at, due_is)) by =
-          let plan = planned_next p before passage next in
-          let sum = readiness_next network slack lead p before next in
-          let early = is.early p due passage (inr (before, s, next, at, due_is)) in
-          let after = tolerates.after_start p.stream before passage.stream (omega (arith, passage.hop)) in
-          let same : slack (link_of network p) ≡ slack (route_link network p.stream (before + 1)) = ap (λ k. slack (route_link network p.stream k)) next in
+      ready_from n not_early p due passage (inr (before, s, continues, at, due_is)) by =
+          let below = started_hop p before s at in
+          let plan = planned_next p before passage below continues in
+          let sum = readiness_continues network slack lead p (route_formed network formed p.stream passage.stream) before below passage.hop continues in
+          let early = is.early p due passage (inr (before, s, continues, at, due_is)) in
+          let after = tolerates.after_start p.stream before p.hop passage.stream below passage.hop continues in
           let late = not_early (record p { hop = before }) s at (omega (arith, early.1)) in
           omega (arith, early.1)
 
@@ -454,38 +552,42 @@ module _ (network : Network) (formed : IsWellFormed network) (offsets : List ℕ
         | inl too_early ↦
             let passage = started_passage q s at in
             let other = holds cycles q s passage (started_ready n not_early q s at (omega arith)) too_early (fits_at q s at) in
-            let found = in_time other.0 other.1 (omega (arith, other.3)) in
+            let found = in_time other.0 other.1 other.2 (omega (arith, other.4)) in
             let differ : other.0 ≡ q → ⊥ = λ same.
             let one : planned network offsets other.0 ≡ planned network offsets q = ap (planned network offsets) same in
-            omega (arith, other.3) in
+            omega (arith, other.4) in
             let some = window_some q passage in
             let other_some = window_some other.0 other.1 in
             let still : s < found.0 + length_of network other.0 = elim (cases_lt found.0 n) [
-              | inl before ↦ let bound = not_early other.0 found.0 found.1 before in omega (arith, other.4)
+              | inl before ↦ let bound = not_early other.0 found.0 found.1 before in omega (arith, other.5)
               | inr not_before ↦ omega arith
             ] in
-            absurd (wires_differ other.0 q found.0 s found.1 at differ other.2 s (omega (arith, found.2, other.3)) still (omega arith) (omega arith))
+            absurd (wires_differ other.0 q found.0 s found.1 at differ other.3 s (omega (arith, found.2, other.4)) still (omega arith) (omega arith))
       ]
 
       -- a passage planned for n is ready by n
-      ready_by : (k : ℕ) (p : Passage) → p.hop ≡ k → IsPassage network cycles p → InTimeBefore (planned network offsets p)
+      ready_by : (p : Passage) → IsPassage network cycles p → Intact p → InTimeBefore (planned network offsets p)
           → (due : ℕ) × IsReady network offsets run p due × (due ≤ planned network offsets p)
-      ready_by zero p hop passage earlier =
-          let plan = planned_first p hop in
-          (planned network offsets p, inl (hop, plan), omega arith)
-      ready_by (suc k) p hop passage earlier =
-          let next : p.hop ≡ k + 1 = omega arith in
-          let plan = planned_next p k passage next in
-          let q_passage = passage_before p k passage next in
-          let delay = hop_delay-pos network formed p.stream passage.stream k (omega (arith, passage.hop)) in
-          let found = earlier (record p { hop = k }) q_passage (omega arith) in
-          (found.0 + hop_delay network p.stream (route_link network p.stream k), inr (k, found.0, next, found.1, refl), omega (arith, found.2))
+      ready_by p passage intact earlier =
+          elim (follow_cases network (route_of network p.stream) (route_formed network formed p.stream passage.stream) p.hop passage.hop) [
+            | inl sent ↦
+                let plan = planned_first p passage sent in
+                (planned network offsets p, inl (sent, plan), omega arith)
+            | inr (before, less, continues) ↦
+                let below : before < hop_count network p.stream = omega (arith, passage.hop) in
+                let plan = planned_next p before passage below continues in
+                let q_passage = passage_before p before passage below in
+                let delay = hop_delay-pos network formed p.stream passage.stream before below in
+                let found = earlier (record p { hop = before }) q_passage (before_intact p before intact below continues) (omega arith) in
+                (found.0 + hop_delay network p.stream (route_link network p.stream before), inr (before, found.0, continues, found.1, refl), omega (arith, found.2))
+          ]
 
       -- and nothing delays it there: what has the wire or is before it in the queue was planned before, and is done
-      not_delayed : (p : Passage) (due : ℕ) → IsPassage network cycles p → NotEarlyBefore (planned network offsets p) → InTimeBefore (planned network offsets p)
+      not_delayed : (p : Passage) (due : ℕ) → IsPassage network cycles p → Intact p → NotEarlyBefore (planned network offsets p)
+          → InTimeBefore (planned network offsets p)
           → IsReady network offsets run p due → due ≤ planned network offsets p
           → NotStartedBefore run p (planned network offsets p + 1) → IsDelayed network offsets gates cycles ready run p (planned network offsets p) → ⊥
-      not_delayed p due passage not_early earlier p_ready by_plan none delayed = delayed_by p passage delayed
+      not_delayed p due passage intact not_early earlier p_ready by_plan none delayed = delayed_by p passage delayed
           (λ q s at same_link before still.
           let q_passage = started_passage q s at in
           let bound = started_ready (planned network offsets p) not_early q s at (omega arith) in
@@ -493,7 +595,7 @@ module _ (network : Network) (formed : IsWellFormed network) (offsets : List ℕ
             | inl same ↦ let late = none s (subst (λ r. StartedAt run r s) same at) in omega arith
             | inr differ ↦ elim (cases_lt (planned network offsets q) (planned network offsets p)) [
               | inl sooner ↦
-                  let found = earlier q q_passage sooner in
+                  let found = earlier q q_passage (started_intact (suc q.hop) q s (omega arith) at) sooner in
                   let same : s ≡ found.0 = is.once q s found.0 at found.1 in
                   let past = after_window q p q_passage passage same_link differ (omega arith) in
                   omega (arith, found.2)
@@ -509,7 +611,9 @@ module _ (network : Network) (formed : IsWellFormed network) (offsets : List ℕ
           let bound = ready_from (planned network offsets p) not_early q q_due q_passage q_ready (omega (arith, early.0)) in
           elim (cases_lt (planned network offsets q) (planned network offsets p)) [
             | inl sooner ↦
-                let found = earlier q q_passage sooner in
+                let whole = subst (λ l. Contains failed l → ⊥) (sym same_link) (not_failed p intact) in
+                let q_intact = ready_intact q q_due q_passage whole q_ready (λ before s less at. started_intact q.hop (record q { hop = before }) s less at) in
+                let found = earlier q q_passage q_intact sooner in
                 let after = not_before found.0 found.1 in
                 omega (arith, found.2)
             | inr not_sooner ↦
@@ -519,39 +623,68 @@ module _ (network : Network) (formed : IsWellFormed network) (offsets : List ℕ
                 omega (arith, early.0)
           ])
 
-      in_time_at : (p : Passage) → IsPassage network cycles p → NotEarlyBefore (planned network offsets p) → InTimeBefore (planned network offsets p)
+      in_time_at : (p : Passage) → IsPassage network cycles p → Intact p → NotEarlyBefore (planned network offsets p)
+          → InTimeBefore (planned network offsets p)
           → (s : ℕ) × StartedAt run p s × (s ≤ planned network offsets p)
-      in_time_at p passage not_early earlier =
-          let p_ready = ready_by p.hop p refl passage earlier in
+      in_time_at p passage intact not_early earlier =
+          let p_ready = ready_by p passage intact earlier in
           let early = is.early p p_ready.0 passage p_ready.1 in
           elim (started_cases run.scheduled p (planned network offsets p + 1)) [
             | inl started ↦ (started.time, started.at, omega (arith, started.before))
             | inr none ↦
-                absurd (not_delayed p p_ready.0 passage not_early earlier p_ready.1 p_ready.2 none
-                (is.waits p p_ready.0 (planned network offsets p) passage p_ready.1 (omega (arith, early.0, p_ready.2)) (in_run p passage) none))
+                absurd (not_delayed p p_ready.0 passage intact not_early earlier p_ready.1 p_ready.2 none
+                (is.waits p p_ready.0 (planned network offsets p) passage (not_failed p intact) p_ready.1 (omega (arith, early.0, p_ready.2))
+                (in_run p passage) none))
           ]
 
       all_before : (n : ℕ) → NotEarlyBefore n × InTimeBefore n
-      all_before zero = ((λ q s at below. absurd (omega arith)), (λ q passage below. absurd (omega arith)))
+      all_before zero = ((λ q s at below. absurd (omega arith)), (λ q passage intact below. absurd (omega arith)))
       all_before (suc n) =
           let so_far = all_before n in
-          let in_time : InTimeBefore (n + 1) = λ q passage below. elim (cases_lt (planned network offsets q) n) [
-            | inl before ↦ so_far.1 q passage before
+          let in_time : InTimeBefore (n + 1) = λ q passage intact below. elim (cases_lt (planned network offsets q) n) [
+            | inl before ↦ so_far.1 q passage intact before
             | inr not_before ↦
                 let now : n ≡ planned network offsets q = omega arith in
-                in_time_at q passage (subst NotEarlyBefore now so_far.0) (subst InTimeBefore now so_far.1)
+                in_time_at q passage intact (subst NotEarlyBefore now so_far.0) (subst InTimeBefore now so_far.1)
           ] in (
             (λ q s at below. elim (cases_lt s n) [
               | inl before ↦ so_far.0 q s at before
               | inr not_before ↦ not_early_at n so_far.0 in_time q s at (omega arith)
             ]),
-            (λ q passage below. in_time q passage (omega arith)),
+            (λ q passage intact below. in_time q passage intact (omega arith)),
           )
 
-      pub starts_in_time : StartsInTime network offsets cycles lead run
-      starts_in_time p passage =
-          let found = (all_before (suc (planned network offsets p))).1 p passage (omega arith) in
+      pub intact_in_time : (p : Passage) → IsPassage network cycles p → Intact p
+          → (s : ℕ) × StartedAt run p s × (s ≤ planned network offsets p) × (planned network offsets p ≤ s + lead p)
+      intact_in_time p passage intact =
+          let found = (all_before (suc (planned network offsets p))).1 p passage intact (omega arith) in
           (found.0, found.1, found.2, (all_before (suc found.0)).0 p found.0 found.1 (omega arith))
+
+  -- ---- where no link has failed
+
+  pub all_intact : (p : Passage) → IsPassage network cycles p → IsIntact [] network (route_of network p.stream) p.hop
+  all_intact p passage = record {
+    way = range_with_len 0 (hop_count network p.stream);
+    has = Contains-range (hop_count network p.stream) 0 p.hop (omega arith) (let hop = passage.hop in omega arith);
+    closed = λ j next below among continues. Contains-range (hop_count network p.stream) 0 j (omega arith) (omega arith);
+    whole = λ k d below failed. Contains-nil _ failed;
+  }
+
+pub hold_without : (network : Network) (formed : IsWellFormed network) (offsets : List ℕ) (valid : IsValid network offsets) (gates : List LinkGates)
+    (slack : ℕ → ℕ) (lead : Passage → ℕ)
+    → HoldsTo network offsets gates slack lead → HoldsToWithout [] network offsets gates slack lead
+hold_without network formed offsets valid gates slack lead holds cycles p t passage by_ready too_early fits =
+    let other = holds cycles p t passage by_ready too_early fits in
+    (other.0, other.1, all_intact network formed offsets valid cycles other.0 other.1, other.2, other.3, other.4)
+
+pub starts_in_time : (network : Network) (formed : IsWellFormed network) (offsets : List ℕ) (valid : IsValid network offsets) (cycles : ℕ)
+    (gates : List LinkGates) (has : KeepsWantedGates network offsets gates) (slack : ℕ → ℕ) (ready : Passage → ℕ) (run : BridgeRun)
+    → IsEarlyRun network offsets gates cycles slack ready run
+    → (lead : Passage → ℕ) → HoldsTo network offsets gates slack lead → ToleratesLead network offsets slack lead
+    → StartsInTime network offsets cycles lead run
+starts_in_time network formed offsets valid cycles gates has slack ready run is lead holds tolerates p passage =
+    intact_in_time network formed offsets valid cycles gates has [] slack ready run is lead
+    (hold_without network formed offsets valid gates slack lead holds) tolerates p passage (all_intact network formed offsets valid cycles p passage)
 
 -- ---- the gates that the schedule asks for
 
@@ -580,5 +713,6 @@ no_lead_tolerated network offsets slack tolerates = record {
       let early = no_lead network slack second in
       let same : slack (link_of network second) ≡ slack link = ap slack second_link in
       omega arith;
-  after_start = λ i k counted within. (tolerates (route_link network i (k + 1))).after_start i k counted within refl;
+  after_start = λ i before k counted before_within within continues.
+      (tolerates (route_link network i k)).after_start i before k counted before_within within continues refl;
 }

@@ -1,13 +1,13 @@
 -- Streams that are held to an offset have it, and nothing else of the network changes.
-use Rattle.std.proofs.Common.{◌≡◌, ℕ, ◌+◌, ◌-◌, ◌*◌, ◌/◌, ◌≤◌, ◌<◌, ◌⊎◌, ◌↔◌, inl, inr, List, length, Option, Contains, IsSome, Some, None, refl, sym, ap, ◌∙◌, subst, max, arith}
+use Rattle.std.proofs.Common.{◌≡◌, ℕ, zero, suc, ◌+◌, ◌*◌, ◌/◌, ◌≤◌, ◌<◌, ◌⊎◌, ◌↔◌, inl, inr, List, length, Option, Contains, IsSome, Some, None, refl, sym, ap, ap₂, ◌∙◌, subst, max, arith, get_or, ◌==◌, if◌then◌else◌}
 use Rattle.std.specs.List.{range_with_len}
 use Rattle.std.specs.Option.{option_map_or}
 use Rattle.std.proofs.lemmas.Bool.{cases_lt}
 use Rattle.std.proofs.lemmas.Option.{none-some}
 use Rattle.std.proofs.lemmas.List.{length-map, get_or-map, get_or_past}
 use Rattle.std.proofs.lemmas.List.FromFn.{length-range_with_len, get_or-range_with_len}
-use Rattle.tsn_model.specs.Network.{Network, IsWellFormed, Stream, no_stream, stream_count, stream_at, octets_of, turns_of, period_of, burst_of, route_of, hop_count, release_of, latest_of, link_at, proc_at}
-use Rattle.tsn_model.specs.Timing.{occupancy, separation, transfer, hop_delay, pace, spread, shifts, start, arrival, hop_end, hop_on, start_on, UsesLink}
+use Rattle.tsn_model.specs.Network.{Network, IsWellFormed, Stream, no_stream, stream_count, stream_at, octets_of, turns_of, period_of, burst_of, route_of, hop_count, route_link, from_at, to_at, release_of, latest_of, link_at, proc_at}
+use Rattle.tsn_model.specs.Timing.{occupancy, separation, transfer, hop_delay, pace, spread, shifts, ready_after, start_on, start, hop_arrival, arrival, hop_end, hop_on, UsesLink}
 use Rattle.tsn_model.specs.Schedule.{offset_of, FrameKeeps, Keeps, IsValid}
 use Rattle.tsn_model.specs.Held.{hold, had, held_stream, held, AreFree, HasOffsets}
 use Rattle.tsn_model.proofs.Limits.{period-le}
@@ -97,13 +97,53 @@ module _ (network : Network) (offsets : List (Option ℕ)) where
       ap (λ octets link. (octets + 8) * (link_at network link).octet_time + (link_at network link).propagation + proc_at network
       (link_at network link).to) (same_octets i)
 
+  same_hops : (i : ℕ) → hop_count (held network offsets) i ≡ hop_count network i
+  same_hops i = ap length (same_route i)
+
+  same_link : (i k : ℕ) → route_link (held network offsets) i k ≡ route_link network i k
+  same_link i k = ap (λ route. get_or route k 0) (same_route i)
+
+  same_from : (i k : ℕ) → from_at (held network offsets) (route_of (held network offsets) i) k ≡ from_at network (route_of network i) k
+  unfolding link_at held
+  same_from i k = ap (λ link. (link_at network link).from) (same_link i k)
+
+  same_to : (i k : ℕ) → to_at (held network offsets) (route_of (held network offsets) i) k ≡ to_at network (route_of network i) k
+  unfolding link_at held
+  same_to i k = ap (λ link. (link_at network link).to) (same_link i k)
+
+  same_delay_on : (i k : ℕ) → hop_delay (held network offsets) i (route_link (held network offsets) i k) ≡ hop_delay network i (route_link network i k)
+  same_delay_on i k = ap (hop_delay (held network offsets) i) (same_link i k) ∙ ap (λ delay. delay (route_link network i k)) (same_delay i)
+
+  same_ready : (i count node : ℕ) → ready_after (held network offsets) i count node ≡ ready_after network i count node
+  unfolding ready_after
+  same_ready i zero node = refl
+  same_ready i (suc count) node =
+      let carried = ap₂ (λ a b. a + b)
+      (same_ready i count (from_at (held network offsets) (route_of (held network offsets) i) count) ∙ ap (ready_after network i count) (same_from i count)) (same_delay_on i count) in
+      let stayed = same_ready i count node in
+      ap (λ to. if to == node then ready_after (held network offsets) i count (from_at (held network offsets) (route_of (held network offsets) i) count) + hop_delay (held network offsets) i (route_link (held network offsets) i count) else ready_after (held network offsets) i count node) (same_to i count)
+      ∙ ap₂ (λ a b. if to_at network (route_of network i) count == node then a else b) carried stayed
+
+  same_start_on : (i link : ℕ) → start_on (held network offsets) i link ≡ start_on network i link
+  unfolding start_on link_at held
+  same_start_on i link =
+      same_ready i (hop_count (held network offsets) i) (link_at network link).from
+      ∙ ap (λ count. ready_after network i count (link_at network link).from) (same_hops i)
+
   same_start : (i k : ℕ) → start (held network offsets) i k ≡ start network i k
   unfolding start
-  same_start i k = rw (same_delay i, same_route i) refl
+  same_start i k = same_start_on i (route_link (held network offsets) i k) ∙ ap (start_on network i) (same_link i k)
+
+  same_hop_arrival : (i k : ℕ) → hop_arrival (held network offsets) i k ≡ hop_arrival network i k
+  unfolding hop_arrival
+  same_hop_arrival i k = rw (same_start i k, same_spread i, same_transfer i, same_route i) refl
+
+  same_hop_arrivals : (i : ℕ) → hop_arrival (held network offsets) i ≡ hop_arrival network i
+  same_hop_arrivals i = λ p k. same_hop_arrival i k p
 
   pub same_arrival : (i : ℕ) → arrival (held network offsets) i ≡ arrival network i
   unfolding arrival
-  same_arrival i = rw (same_route i, same_start i (hop_count network i - 1), same_spread i, same_transfer i) refl
+  same_arrival i = rw (same_hop_arrivals i, same_route i) refl
 
   same_hop_end : (i k : ℕ) → hop_end (held network offsets) i k ≡ hop_end network i k
   unfolding hop_end
@@ -112,10 +152,6 @@ module _ (network : Network) (offsets : List (Option ℕ)) where
   same_hop : (i link : ℕ) → hop_on (held network offsets) i link ≡ hop_on network i link
   unfolding hop_on
   same_hop i link = rw (same_route i) refl
-
-  same_start_on : (i link : ℕ) → start_on (held network offsets) i link ≡ start_on network i link
-  unfolding start_on
-  same_start_on i link = rw (same_delay i, same_route i) refl
 
   -- ---- what is valid
 

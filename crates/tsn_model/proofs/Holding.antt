@@ -1,5 +1,5 @@
 -- Holding streams to their offsets, one after the other.
-use Rattle.std.proofs.Common.{◌≡◌, ◌≢◌, ℕ, ◌+◌, ◌-◌, ◌*◌, ◌≤◌, ◌<◌, inl, inr, min, List, [], map, length, get_or, set, take, Option, Some, None, refl, sym, ap, ap₂, ◌∙◌, subst, arith, length-take, mul-pos}
+use Rattle.std.proofs.Common.{◌≡◌, ◌≢◌, ℕ, ◌+◌, ◌*◌, ◌≤◌, ◌<◌, inl, inr, min, List, [], map, length, get_or, set, take, Option, Some, None, refl, sym, ap, ap₂, ◌∙◌, subst, arith, length-take, mul-pos}
 use Rattle.std.specs.List.{range_with_len}
 use Rattle.std.specs.Option.{option_map_or}
 use Rattle.std.proofs.lemmas.Bool.{cases_lt, cases_eq}
@@ -8,9 +8,10 @@ use Rattle.std.proofs.lemmas.List.Elements.{All-set, All-weaker}
 use Rattle.std.proofs.lemmas.List.Sums.{sum_by-set}
 use Rattle.std.proofs.lemmas.List.FromFn.{length-map-range_with_len, get_or-map-range_with_len}
 use Rattle.tsn_model.specs.declared.Link.{Link}
-use Rattle.tsn_model.specs.Network.{Network, Stream, IsWellFormed, IsLink, IsRoute, IsStream, no_stream, stream_count, stream_at, octets_of, route_of, hop_count, route_link, link_at, transfer, hop_delay, frame_count, nodes_along}
-use Rattle.tsn_model.specs.Timing.{arrival}
+use Rattle.tsn_model.specs.Network.{Network, Stream, IsWellFormed, IsLink, IsRoute, IsStream, no_stream, stream_count, stream_at, octets_of, route_of, hop_count, route_link, link_at, transfer, hop_delay, frame_count, Continues}
+use Rattle.tsn_model.specs.Timing.{hop_arrival, arrival}
 use Rattle.tsn_model.specs.Held.{hold, had, held_stream, held}
+use Rattle.tsn_model.proofs.Lists.{le-greatest-range}
 use Rattle.tsn_model.proofs.Routes.{rate-pos}
 use Rattle.tsn_model.proofs.Limits.{hops-pos, route_exists}
 use Rattle.tsn_model.proofs.Held.{same_count, stream_held, same_arrival}
@@ -110,14 +111,14 @@ module _ (network : Network) where
 
 module _ (network : Network) (formed : IsWellFormed network) (i offset : ℕ) (below : i < stream_count network) (small : offset ≤ 1000000000) where
   arrival-pos : 1 ≤ arrival network i
-  unfolding arrival transfer
+  unfolding arrival hop_arrival transfer
   arrival-pos =
       let hops = hops-pos network formed i below in
-      let rate = rate-pos network formed (route_link network i (hop_count network i - 1))
-      (route_exists network formed i below (hop_count network i - 1) 0 (omega (arith, hops))) in
-      let product : 0 < (octets_of network i + 8) * (link_at network (route_link network i (hop_count network i - 1))).octet_time =
+      let rate = rate-pos network formed (route_link network i 0) (route_exists network formed i below 0 0 (omega (arith, hops))) in
+      let product : 0 < (octets_of network i + 8) * (link_at network (route_link network i 0)).octet_time =
       mul-pos (omega arith) rate in
-      omega (arith, product)
+      let among = le-greatest-range (hop_arrival network i) (hop_count network i) 0 0 (omega arith) (omega (arith, hops)) in
+      omega (arith, product, among)
 
   abbrev over : List Stream → Network
   over streams = record network { streams = streams }
@@ -126,13 +127,15 @@ module _ (network : Network) (formed : IsWellFormed network) (i offset : ℕ) (b
   link_over streams link is = record { from = is.from; to = is.to; joins_two = is.joins_two; rate = is.rate; propagation = is.propagation }
 
   route_over : (streams : List Stream) (route : List ℕ) → IsRoute network route → IsRoute (over streams) route
-  unfolding link_at nodes_along
+  unfolding link_at
   route_over streams route is = record {
     some_link = is.some_link;
     few_links = is.few_links;
     links_exist = is.links_exist;
-    links_connect = is.links_connect;
-    no_node_twice = is.no_node_twice;
+    no_link_twice = is.no_link_twice;
+    links_follow = is.links_follow;
+    none_returns = is.none_returns;
+    entered_once = is.entered_once;
   }
 
   stream_over : (streams : List Stream) (stream : Stream) → IsStream network stream → IsStream (over streams) stream
@@ -184,13 +187,16 @@ module _ (network : Network) (formed : IsWellFormed network) (i offset : ℕ) (b
         (ap (λ (s : Stream). s.octets) kept, ap (λ (s : Stream). s.route) kept)
   ]
 
-  bears_over : (k hop : ℕ) → k < stream_count network → hop + 1 < hop_count (over (set network.streams i (hold network i offset))) k
+  bears_over : (k before hop : ℕ) → k < stream_count network → before < hop_count (over (set network.streams i (hold network i offset))) k
+      → hop < hop_count (over (set network.streams i (hold network i offset))) k
+      → Continues (over (set network.streams i (hold network i offset))) (route_of (over (set network.streams i (hold network i offset))) k) before hop
       → network.slack < hop_delay (over (set network.streams i (hold network i offset))) k
-      (route_link (over (set network.streams i (hold network i offset))) k hop)
+      (route_link (over (set network.streams i (hold network i offset))) k before)
   unfolding hop_delay transfer octets_of route_of link_at
-  bears_over k hop counted within =
+  bears_over k before hop counted first second continues =
       let alike = alike_over k in
-      let past = formed.after_start k hop counted (subst (λ route. hop + 1 < length route) alike.1 within) in
+      let past = formed.after_start k before hop counted (subst (λ route. before < length route) alike.1 first) (subst (λ route. hop < length route) alike.1 second)
+      (subst (λ route. Continues network route before hop) alike.1 continues) in
       rw (alike.0, alike.1) past
 
   pub well_held : IsWellFormed (record network { streams = set network.streams i (hold network i offset) })
@@ -213,5 +219,5 @@ module _ (network : Network) (formed : IsWellFormed network) (i offset : ℕ) (b
         links = All-weaker (IsLink network) (IsLink (over streams)) (link_over streams) network.links formed.links;
         streams = All-weaker (IsStream network) (IsStream (over streams)) (stream_over streams) streams
             (All-set (IsStream network) network.streams i (hold network i offset) held_formed formed.streams);
-        after_start = λ k hop counted within. bears_over k hop (omega (arith, counted, count)) within;
+        after_start = λ k before hop counted. bears_over k before hop (omega (arith, counted, count));
       }

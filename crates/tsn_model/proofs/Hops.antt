@@ -1,13 +1,12 @@
 -- Passages of frames, the instants of a cycle, and the hops of a route.
-use Rattle.std.proofs.Common.{◌≡◌, ◌≢◌, ℕ, suc, ◌+◌, ◌*◌, ◌≤◌, ◌<◌, ◌⊎◌, List, [], ◌∷◌, map, length, get_or, Contains, refl, sym, ap, ◌∙◌, subst, arith, inl, inr, mul-le-mul, mul-pos, suc-mul, ◌==◌, nat_lt, is_some, Some, None, take, sum_by, lt-ltb, eq-eqb, ne_eqb}
-use Rattle.std.proofs.Math.ListN.{get_or-map, length-map}
+use Rattle.std.proofs.Common.{◌≡◌, ℕ, suc, ◌+◌, ◌*◌, ◌≤◌, ◌<◌, ◌⊎◌, List, [], ◌∷◌, length, Contains, refl, sym, ap, subst, arith, inl, inr, mul-le-mul, mul-pos, suc-mul, ◌==◌, nat_lt, is_some, Some, None, lt-ltb, eq-eqb, ne_eqb}
 use Rattle.std.specs.List.{position_or_len}
 use Rattle.std.proofs.lemmas.Bool.{cases_lt, cases_eq, cases_order, cond-true}
 use Rattle.std.proofs.lemmas.List.Sums.{position_or_len_is}
-use Rattle.tsn_model.specs.Network.{Network, IsWellFormed, IsRoute, stream_count, no_stream, stream_at, octets_of, route_of, hop_count, route_link, link_at, nodes_along}
+use Rattle.tsn_model.specs.Network.{Network, IsWellFormed, IsRoute, stream_count, no_stream, stream_at, octets_of, route_of, hop_count, route_link, link_at}
 use Rattle.tsn_model.specs.Timing.{occupancy, transfer, hop_delay, start, hop_on, UsesLink, start_on}
 use Rattle.tsn_model.specs.Bridge.{Passage, ScheduledStart}
-use Rattle.tsn_model.proofs.Lists.{AllPairs-tail, Contains-cons_cases, Contains-nil, Contains-head, Contains-more}
+use Rattle.tsn_model.proofs.Lists.{Contains-cons_cases, Contains-nil, Contains-head, Contains-more}
 use Rattle.tsn_model.proofs.Routes.{rate-pos}
 
 -- ---- passages that started
@@ -80,18 +79,12 @@ same_cycle a b size s t s_below t_below same = elim (cases_order a b) [
 -- ---- the hops of a route
 
 module _ (network : Network) (formed : IsWellFormed network) (i : ℕ) (counted : i < stream_count network) where
-  route_formed : IsRoute network (route_of network i)
+  pub route_formed : IsRoute network (route_of network i)
   unfolding route_of stream_at
   route_formed = (formed.streams i no_stream counted).route
 
   links_differ : (j k : ℕ) → j < k → k < hop_count network i → route_link network i j ≡ route_link network i k → ⊥
-  unfolding nodes_along
-  links_differ j k order below same =
-      let to : ℕ → ℕ = λ link. (link_at network link).to in
-      let long : length (map to (route_of network i)) ≡ length (route_of network i) = simp length-map in
-      let apart = AllPairs-tail ◌≢◌ (link_at network (get_or (route_of network i) 0 0)).from (map to (route_of network i)) route_formed.no_node_twice j k
-      (to 0) order (subst (λ n. k < n) (sym long) below) in
-      apart (get_or-map to (route_of network i) j 0 ∙ (ap to same ∙ sym (get_or-map to (route_of network i) k 0)))
+  links_differ j k order below same = route_formed.no_link_twice j k 0 order below same
 
   first_place : (k : ℕ) → k < hop_count network i → position_or_len (λ hop. hop == route_link network i k) (route_of network i) ≡ k
   first_place k below =
@@ -106,8 +99,8 @@ module _ (network : Network) (formed : IsWellFormed network) (i : ℕ) (counted 
       (Some (position_or_len (λ hop. hop == route_link network i k) (route_of network i))) None (lt-ltb _ _ (omega arith)))
 
   pub hop_start : (k : ℕ) → k < hop_count network i → start_on network i (route_link network i k) ≡ start network i k
-  unfolding start_on start
-  hop_start k below = ap (λ n. sum_by (hop_delay network i) (take n (route_of network i))) (first_place k below)
+  unfolding start
+  hop_start k below = refl
 
   -- a stream uses a link on one hop alone
   pub hop_once : (j k : ℕ) → j < hop_count network i → k < hop_count network i → route_link network i j ≡ route_link network i k → j ≡ k

@@ -1,12 +1,13 @@
 -- How large the numbers of a network within its limits are.
-use Rattle.std.proofs.Common.{ℕ, ◌+◌, ◌-◌, ◌*◌, ◌≤◌, map, ◌<◌, length, take, All, arith, mul-le-mul, mul-pos, length-take}
-use Rattle.std.proofs.lemmas.List.Sums.{sum_by-le}
-use Rattle.std.proofs.lemmas.List.Elements.{All-take, All-weaker, All-map}
-use Rattle.tsn_model.specs.Network.{Network, IsWellFormed, IsLink, IsStream, stream_count, no_stream, stream_at, octets_of, turns_of, period_of, burst_of, route_of, release_of, latest_of, hop_count, link_at, proc_at}
-use Rattle.tsn_model.proofs.Lists.{greatest-le}
+use Rattle.std.proofs.Common.{ℕ, ◌+◌, ◌-◌, ◌*◌, ◌≤◌, map, ◌<◌, length, All, arith, mul-le-mul, mul-pos}
+use Rattle.std.specs.List.{range_with_len}
+use Rattle.std.proofs.lemmas.List.Elements.{All-map}
+use Rattle.tsn_model.specs.Network.{Network, IsWellFormed, IsLink, IsStream, stream_count, no_stream, stream_at, octets_of, turns_of, period_of, burst_of, route_of, release_of, latest_of, hop_count, route_link, link_at, proc_at}
+use Rattle.tsn_model.proofs.Lists.{greatest-le, All-map-range}
+use Rattle.tsn_model.proofs.Starts.{ready-le}
 use Rattle.tsn_model.proofs.Shifts.{part_below, place-le, turns-mul-le, period-le-cycle}
 use Rattle.tsn_model.proofs.Routes.{rate-pos}
-use Rattle.tsn_model.specs.Timing.{occupancy, separation, pace, spread, transfer, hop_delay, start}
+use Rattle.tsn_model.specs.Timing.{occupancy, separation, pace, spread, transfer, hop_delay, start_on, start, hop_arrival, arrival}
 
 module _ (network : Network) (formed : IsWellFormed network) where
   stream_formed : (i : ℕ) → i < stream_count network → IsStream network (stream_at network i)
@@ -29,7 +30,7 @@ module _ (network : Network) (formed : IsWellFormed network) where
   unfolding latest_of
   latest-le i below = (stream_formed i below).latest
 
-  pub hops-le : (i : ℕ) → i < stream_count network → hop_count network i ≤ 16
+  pub hops-le : (i : ℕ) → i < stream_count network → hop_count network i ≤ 64
   unfolding route_of
   hops-le i below = (stream_formed i below).route.few_links
 
@@ -97,16 +98,17 @@ module _ (network : Network) (formed : IsWellFormed network) where
       let proc = proc-le (link_at network link).to (to-lt link link_below) in
       omega arith
 
-  pub start-le : (i k : ℕ) → i < stream_count network → start network i k ≤ 51584000
-  unfolding start
-  start-le i k below =
-      let each : All (λ link. hop_delay network i link ≤ 3224000) (take k (route_of network i)) =
-      All-take (λ link. hop_delay network i link ≤ 3224000) k (route_of network i)
-      (All-weaker (λ link. link < length network.links) (λ link. hop_delay network i link ≤ 3224000) (λ link exists. hop_delay-le i link below exists) (route_of network i) (route_exists i below)) in
-      let sum = sum_by-le (hop_delay network i) 3224000 (take k (route_of network i)) each in
-      let short = length-take k (route_of network i) in
+  pub start_on-le : (i link : ℕ) → i < stream_count network → start_on network i link ≤ 206336000
+  unfolding start_on
+  start_on-le i link below =
+      let bound = ready-le network i 3224000 (λ k inside. hop_delay-le i (route_link network i k) below (route_exists i below k 0 inside)) (hop_count network i)
+      (link_at network link).from (omega arith) in
       let hops = hops-le i below in
       omega arith
+
+  pub start-le : (i k : ℕ) → i < stream_count network → start network i k ≤ 206336000
+  unfolding start
+  start-le i k below = start_on-le i (route_link network i k) below
 
   -- ---- the frames of a cycle
 
@@ -147,3 +149,19 @@ module _ (network : Network) (formed : IsWellFormed network) where
       let within = place-le network i place in_burst in
       let whole = spread-le i counted in
       omega arith
+
+  -- ---- the ends
+
+  pub hop_arrival-le : (i k : ℕ) → i < stream_count network → k < hop_count network i → hop_arrival network i k ≤ 227064000
+  unfolding hop_arrival
+  hop_arrival-le i k below inside =
+      let begins = start-le i k below in
+      let lasts = spread-le i below in
+      let whole = transfer-le i (route_link network i k) below (route_exists i below k 0 inside) in
+      omega arith
+
+  pub arrival-le : (i : ℕ) → i < stream_count network → arrival network i ≤ 227064000
+  unfolding arrival
+  arrival-le i below =
+      greatest-le (map (hop_arrival network i) (range_with_len 0 (hop_count network i))) 227064000
+      (All-map-range (λ x. x ≤ 227064000) (hop_arrival network i) (hop_count network i) 0 (λ k low high. hop_arrival-le i k below (omega arith)))

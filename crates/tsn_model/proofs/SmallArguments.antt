@@ -6,7 +6,7 @@ use Rattle.std.proofs.lemmas.Bool.{and_parts}
 use Rattle.std.proofs.lemmas.List.Elements.{All-nil, All-cons}
 use Rattle.tsn_model.specs.declared.Frame.{Frame}
 use Rattle.tsn_model.specs.Network.{Network, stream_count, IsWellFormed, stream_at, period_of, turns_of, burst_of, octets_of, route_of, release_of, latest_of, link_at}
-use Rattle.tsn_model.specs.Timing.{occupancy, separation, transfer, hop_delay, pace, spread, start, arrival, hop_end, span, greatest, hop_on, start_on, UsesLink}
+use Rattle.tsn_model.specs.Timing.{occupancy, separation, transfer, hop_delay, pace, spread, ready_after, start, hop_arrival, arrival, hop_end, span, greatest, hop_on, start_on, UsesLink}
 use Rattle.tsn_model.specs.Schedule.{offset_of, flowspan, latest_offset}
 use Rattle.tsn_model.specs.Arcs.{arc_between, arc_on, arc_of}
 use Rattle.tsn_model.specs.Certificate.{least, IsFrameOn, begin_on, end_on}
@@ -60,7 +60,7 @@ is_open network a b c d e f two known impossible =
     crossing (inr past) first second done = omega (arith, ints)
 
 first_argued : Argues small_network (goal_first small_offsets) first_steps
-unfolding first_steps small_network small_offsets stream_at octets_of route_of release_of latest_of link_at occupancy separation transfer hop_delay start arrival hop_end span greatest start_on flowspan least opposite learned learned_all head_at end_at most first_head last_end work_on shown narrowed latest_offset greatest_flowspan first_ground capped settled begun ended known_with known_after spread burst_of pace period_of begin_on end_on turns_of
+unfolding first_steps small_network small_offsets stream_at octets_of route_of release_of latest_of link_at occupancy separation transfer hop_delay start arrival hop_end span greatest start_on flowspan least opposite learned learned_all head_at end_at most first_head last_end work_on shown narrowed latest_offset greatest_flowspan first_ground capped settled begun ended known_with known_after spread burst_of pace period_of begin_on end_on turns_of ready_after hop_arrival
 first_argued = (
   record {
     open_ground = is_open small_network _ _ _ _ _ _ refl refl;
@@ -91,7 +91,7 @@ first_argued = (
 )
 
 none_argued : Argues short_network goal_none none_steps
-unfolding none_steps short_network stream_at octets_of route_of release_of latest_of link_at occupancy separation transfer hop_delay start arrival hop_end span greatest start_on least learned learned_all refuting head_at end_at most first_head last_end work_on shown narrowed latest_offset greatest_flowspan first_ground settled begun ended known_with known_after spread burst_of pace period_of begin_on end_on turns_of
+unfolding none_steps short_network stream_at octets_of route_of release_of latest_of link_at occupancy separation transfer hop_delay start arrival hop_end span greatest start_on least learned learned_all refuting head_at end_at most first_head last_end work_on shown narrowed latest_offset greatest_flowspan first_ground settled begun ended known_with known_after spread burst_of pace period_of begin_on end_on turns_of ready_after hop_arrival
 none_argued = (
   record {
     open_ground = is_open short_network _ _ _ _ _ _ refl refl;
@@ -103,7 +103,7 @@ none_argued = (
 )
 
 least_argued : Argues small_network (goal_least small_offsets) least_steps
-unfolding least_steps left_goes right_goes small_network shared small_offsets stream_at octets_of route_of release_of latest_of link_at occupancy separation transfer hop_delay start arrival hop_end span greatest start_on flowspan arc_of arc_on arc_between decision_eq side_eq other_side turned opposite learned learned_all refuting contradicts left_open unit_of weight_by shown_by shown narrowed latest_offset greatest_flowspan first_ground settled begun ended known_with known_after spread burst_of pace period_of begin_on end_on turns_of
+unfolding least_steps left_goes right_goes small_network shared small_offsets stream_at octets_of route_of release_of latest_of link_at occupancy separation transfer hop_delay start arrival hop_end span greatest start_on flowspan arc_of arc_on arc_between decision_eq side_eq other_side turned opposite learned learned_all refuting contradicts left_open unit_of weight_by shown_by shown narrowed latest_offset greatest_flowspan first_ground settled begun ended known_with known_after spread burst_of pace period_of begin_on end_on turns_of ready_after hop_arrival
 least_argued = (
   record {
     open_ground = is_open small_network _ _ _ _ _ _ refl refl;
@@ -149,7 +149,7 @@ least_argued = (
 
 -- both streams are done by 2970, and need no longer
 too_far : Argues small_network (goal_first small_offsets) far_steps → ⊥
-unfolding far_steps small_network small_offsets stream_at octets_of route_of release_of latest_of link_at occupancy separation transfer hop_delay start arrival hop_end span greatest start_on flowspan least opposite learned learned_all head_at end_at most first_head last_end work_on shown narrowed latest_offset greatest_flowspan first_ground settled begun spread burst_of pace period_of begin_on end_on turns_of
+unfolding far_steps small_network small_offsets stream_at octets_of route_of release_of latest_of link_at occupancy separation transfer hop_delay start arrival hop_end span greatest start_on flowspan least opposite learned learned_all head_at end_at most first_head last_end work_on shown narrowed latest_offset greatest_flowspan first_ground settled begun spread burst_of pace period_of begin_on end_on turns_of ready_after hop_arrival
 too_far argued =
     let last = argued.0.moves.2.2.1.2 in
     absurd (omega (arith, ints, last))
@@ -161,14 +161,14 @@ too_early argued =
     absurd (omega arith)
 
 too_long : Argues (star_network 2970) goal_none none_steps → ⊥
-unfolding none_steps stream_at octets_of route_of release_of latest_of link_at occupancy separation transfer hop_delay start arrival hop_end span greatest start_on least learned_all head_at end_at most first_head last_end work_on latest_offset greatest_flowspan first_ground begun spread burst_of pace period_of begin_on end_on turns_of
+unfolding none_steps stream_at octets_of route_of release_of latest_of link_at occupancy separation transfer hop_delay start arrival hop_end span greatest start_on least learned_all head_at end_at most first_head last_end work_on latest_offset greatest_flowspan first_ground begun spread burst_of pace period_of begin_on end_on turns_of ready_after hop_arrival
 too_long argued =
     let room = argued.0.moves.1.1 in
     absurd (omega (arith, ints, room))
 
 -- the small network's plan comes before the other one of its flowspan
 before_later : IsInQuestion small_network (goal_first (672 ∷ 0 ∷ [])) small_offsets
-unfolding small_network small_offsets stream_at octets_of route_of link_at occupancy separation transfer hop_delay start arrival greatest flowspan spread burst_of pace
+unfolding small_network small_offsets stream_at octets_of route_of link_at occupancy separation transfer hop_delay start arrival greatest flowspan spread burst_of pace start_on ready_after hop_arrival
 before_later = record { valid = small_valid; against = inr (refl, inr (0, omega arith, omega arith, refl, omega arith)) }
 
 later : (steps : List Step) → Argues small_network (goal_first (672 ∷ 0 ∷ [])) steps → ⊥
@@ -181,7 +181,7 @@ later steps argued =
 
 -- and undercuts one whose second stream starts 1 ns later
 undercuts : IsInQuestion small_network (goal_least (0 ∷ 673 ∷ [])) small_offsets
-unfolding small_network small_offsets stream_at octets_of route_of link_at occupancy separation transfer hop_delay start arrival greatest flowspan spread burst_of pace
+unfolding small_network small_offsets stream_at octets_of route_of link_at occupancy separation transfer hop_delay start arrival greatest flowspan spread burst_of pace start_on ready_after hop_arrival
 undercuts = record { valid = small_valid; against = omega arith }
 
 pub small_arguments : SmallArguments

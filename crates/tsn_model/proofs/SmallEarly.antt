@@ -2,8 +2,8 @@
 use Rattle.std.proofs.Common.{◌≡◌, ℕ, zero, suc, ◌+◌, ◌*◌, ◌≤◌, ◌<◌, ◌⊎◌, List, [], ◌∷◌, get_or, All, AllPairs, Any, Contains, refl, sym, ap, ◌∙◌, subst, arith, inl, inr}
 use Rattle.std.proofs.lemmas.Bool.{cases_lt}
 use Rattle.std.proofs.lemmas.List.Elements.{All-nil, All-cons}
-use Rattle.tsn_model.specs.Network.{stream_count, stream_at, octets_of, turns_of, burst_of, route_of, hop_count, route_link, link_at}
-use Rattle.tsn_model.specs.Timing.{occupancy, transfer, hop_delay, start, Sends, UsesLink, hop_on, start_on}
+use Rattle.tsn_model.specs.Network.{stream_count, stream_at, octets_of, turns_of, burst_of, route_of, hop_count, route_link, link_at, Continues}
+use Rattle.tsn_model.specs.Timing.{occupancy, transfer, hop_delay, ready_after, start, Sends, UsesLink, hop_on, start_on}
 use Rattle.tsn_model.specs.Bridge.{LinkGates, HasWantedGates, Passage, ScheduledStart, BackgroundStart, BridgeRun, WireUse, link_of, length_of, scheduled_use, wire_uses, AreDisjoint, IsPassage, StartedAt, NotStartedBefore, IsReady, FitsAt, ScheduledOpen, planned, StartsOnTime}
 use Rattle.tsn_model.specs.Early.{IsDelayed, IsEarlyRun, ToleratesOn}
 use Rattle.tsn_model.specs.Examples.{small_network, small_offsets}
@@ -18,7 +18,7 @@ use Rattle.tsn_model.proofs.OnTime.{wanted_kept, short_tolerated}
 
 -- ---- the passages of one cycle
 
-abbrev passage : ℕ → ℕ → Passage
+abbrev pub passage : ℕ → ℕ → Passage
 passage stream hop = record { stream = stream; shift = 0; cycle = 0; hop = hop }
 
 one_shift : (i shift : ℕ) → turns_of small_network i ≡ 1 → burst_of small_network i ≡ 1 → Sends small_network i shift → shift ≡ 0
@@ -31,7 +31,7 @@ at_offset zero shift counted sent = one_shift 0 shift refl refl sent
 at_offset (suc zero) shift counted sent = one_shift 1 shift refl refl sent
 at_offset (suc (suc stream)) shift counted sent = absurd (omega arith)
 
-each_passage : (P : Passage → Type 0) → P (passage 0 0) → P (passage 1 0) → P (passage 0 1) → P (passage 1 1) → (p : Passage) → IsPassage small_network 1 p
+pub each_passage : (P : Passage → Type 0) → P (passage 0 0) → P (passage 1 0) → P (passage 0 1) → P (passage 1 1) → (p : Passage) → IsPassage small_network 1 p
     → P p
 unfolding small_network stream_at route_of
 each_passage P a b c d p is =
@@ -49,7 +49,7 @@ each_passage P a b c d p is =
     at (suc (suc stream)) zero hop counted below hops = absurd (omega arith)
     at stream (suc cycle) hop counted below hops = absurd (omega arith)
 
-is_passage : (stream hop : ℕ) → stream < 2 → hop < 2 → IsPassage small_network 1 (passage stream hop)
+pub is_passage : (stream hop : ℕ) → stream < 2 → hop < 2 → IsPassage small_network 1 (passage stream hop)
 unfolding small_network stream_at route_of
 is_passage zero hop counted below = record {
   stream = omega arith;
@@ -73,23 +73,49 @@ occupies : (i : ℕ) → i < stream_count small_network → occupancy small_netw
 unfolding small_network stream_at octets_of link_at occupancy
 occupies i below = both_streams (λ k. occupancy small_network k 4 ≡ 672) refl refl i below
 
-delays : (i k : ℕ) → i < stream_count small_network → k + 1 < hop_count small_network i → hop_delay small_network i (route_link small_network i k) ≡ 1626
-unfolding small_network stream_at octets_of route_of link_at transfer hop_delay
-delays zero zero counted within = refl
-delays zero (suc k) counted within = absurd (omega arith)
-delays (suc zero) zero counted within = refl
-delays (suc zero) (suc k) counted within = absurd (omega arith)
-delays (suc (suc i)) k counted within = absurd (omega arith)
+-- each stream has two links: the one begins at the talker, and the other one continues it
+pub follow : (i before k : ℕ) → i < 2 → before < 2 → k < 2 → Continues small_network (route_of small_network i) before k → (before ≡ 0) × (k ≡ 1)
+unfolding small_network stream_at route_of link_at
+follow zero zero zero counted a b same = absurd (omega arith)
+follow zero zero (suc zero) counted a b same = (refl, refl)
+follow zero (suc zero) zero counted a b same = absurd (omega arith)
+follow zero (suc zero) (suc zero) counted a b same = absurd (omega arith)
+follow (suc zero) zero zero counted a b same = absurd (omega arith)
+follow (suc zero) zero (suc zero) counted a b same = (refl, refl)
+follow (suc zero) (suc zero) zero counted a b same = absurd (omega arith)
+follow (suc zero) (suc zero) (suc zero) counted a b same = absurd (omega arith)
+follow (suc (suc i)) before k counted a b same = absurd (omega arith)
+follow i (suc (suc before)) k counted a b same = absurd (omega arith)
+follow i before (suc (suc k)) counted a b same = absurd (omega arith)
 
-first_planned : planned small_network small_offsets (passage 0 1) ≡ 1626
-unfolding small_network small_offsets stream_at octets_of route_of link_at transfer hop_delay start planned
+pub two_hops : (i : ℕ) → i < stream_count small_network → (i < 2) × (hop_count small_network i ≡ 2)
+unfolding small_network stream_at route_of
+two_hops zero counted = (omega arith, refl)
+two_hops (suc zero) counted = (omega arith, refl)
+two_hops (suc (suc i)) counted = absurd (omega arith)
+
+pub delay_first : (i : ℕ) → i < 2 → hop_delay small_network i (route_link small_network i 0) ≡ 1626
+unfolding small_network stream_at octets_of route_of link_at transfer hop_delay
+delay_first zero counted = refl
+delay_first (suc zero) counted = refl
+delay_first (suc (suc i)) counted = absurd (omega arith)
+
+pub delays : (i before k : ℕ) → i < stream_count small_network → before < hop_count small_network i → k < hop_count small_network i
+    → Continues small_network (route_of small_network i) before k → hop_delay small_network i (route_link small_network i before) ≡ 1626
+delays i before k counted before_within within continues =
+    let two = two_hops i counted in
+    let is = follow i before k two.0 (omega (arith, two.1)) (omega (arith, two.1)) continues in
+    ap (λ h. hop_delay small_network i (route_link small_network i h)) is.0 ∙ delay_first i two.0
+
+pub first_planned : planned small_network small_offsets (passage 0 1) ≡ 1626
+unfolding small_network small_offsets stream_at octets_of route_of link_at transfer hop_delay ready_after start_on start planned
 first_planned = refl
 
-second_planned : planned small_network small_offsets (passage 1 1) ≡ 2298
-unfolding small_network small_offsets stream_at octets_of route_of link_at transfer hop_delay start planned
+pub second_planned : planned small_network small_offsets (passage 1 1) ≡ 2298
+unfolding small_network small_offsets stream_at octets_of route_of link_at transfer hop_delay ready_after start_on start planned
 second_planned = refl
 
-on_link : (stream : ℕ) → stream < 2 → link_of small_network (passage stream 1) ≡ 4
+pub on_link : (stream : ℕ) → stream < 2 → link_of small_network (passage stream 1) ≡ 4
 unfolding small_network stream_at route_of link_of
 on_link zero below = refl
 on_link (suc zero) below = refl
@@ -107,10 +133,10 @@ tolerated : (slack : ℕ) → slack ≤ 671 → ToleratesOn small_network small_
 tolerated slack few =
     short_tolerated small_network small_formed small_offsets small_valid 4 slack
     (λ i used. let long = occupies i (UsesLink-counted small_network i 4 used) in omega arith)
-    (λ i k counted within link. let delay = delays i k counted within in omega arith)
+    (λ i before k counted before_within within continues link. let delay = delays i before k counted before_within within continues in omega arith)
 
 planned-small : (i shift : ℕ) → i < stream_count small_network → Sends small_network i shift → planned_on small_network small_offsets 4 i shift ≡ 1626 + i * 672
-unfolding small_network small_offsets stream_at octets_of route_of link_at transfer hop_delay start_on planned_on
+unfolding small_network small_offsets stream_at octets_of route_of link_at transfer hop_delay ready_after start_on planned_on
 planned-small zero shift counted sent = let none = at_offset 0 shift counted sent in omega arith
 planned-small (suc zero) shift counted sent = let none = at_offset 1 shift counted sent in omega arith
 planned-small (suc (suc i)) shift counted sent = absurd (omega arith)
@@ -143,17 +169,17 @@ small_starts = record {
 
 -- ---- runs in which the second frame is ready early
 
-abbrev use_on : ℕ → ℕ → WireUse
+abbrev pub use_on : ℕ → ℕ → WireUse
 use_on link from = record { link = link; from = from; until = from + 672 }
 
 all_four : {X : Type 0} (P : X → Type 0) (a b c d : X) → P a → P b → P c → P d → All P (a ∷ b ∷ c ∷ d ∷ [])
 all_four P a b c d first second third fourth = All-cons P a (b ∷ c ∷ d ∷ []) first (All-cons P b (c ∷ d ∷ []) second (all_two P c d third fourth))
 
-cycle_is : 1 * small_network.cycle ≡ 1000000
+pub cycle_is : 1 * small_network.cycle ≡ 1000000
 unfolding small_network
 cycle_is = refl
 
-length_is : (stream hop : ℕ) → stream < 2 → hop < 2 → length_of small_network (passage stream hop) ≡ 672
+pub length_is : (stream hop : ℕ) → stream < 2 → hop < 2 → length_of small_network (passage stream hop) ≡ 672
 unfolding small_network stream_at octets_of route_of link_at occupancy link_of length_of
 length_is zero zero counted below = refl
 length_is zero (suc zero) counted below = refl
@@ -190,6 +216,14 @@ module _ (first second : ℕ) where
   starts stream (suc (suc hop)) counted below = absurd (omega arith)
   starts (suc (suc stream)) hop counted below = absurd (omega arith)
 
+  no_start : (stream hop t : ℕ) → StartedAt run (passage stream (suc (suc hop))) t → ⊥
+  unfolding sent_on
+  no_start stream hop t (zero, below, is) = let at = ap (λ (s : ScheduledStart). s.passage.hop) is in omega arith
+  no_start stream hop t (suc zero, below, is) = let at = ap (λ (s : ScheduledStart). s.passage.hop) is in omega arith
+  no_start stream hop t (suc (suc zero), below, is) = let at = ap (λ (s : ScheduledStart). s.passage.hop) is in omega arith
+  no_start stream hop t (suc (suc (suc zero)), below, is) = let at = ap (λ (s : ScheduledStart). s.passage.hop) is in omega arith
+  no_start stream hop t (suc (suc (suc (suc k))), below, is) = absurd (omega arith)
+
   each_start : (P : ScheduledStart → Type 0)
       → ((stream hop : ℕ) → stream < 2 → hop < 2 → P (record { passage = passage stream hop; time = at_hop stream hop })) → All P run.scheduled
   unfolding sent_on
@@ -212,13 +246,19 @@ module _ (first second : ℕ) where
 
   due_is : (stream hop t : ℕ) → stream < 2 → hop < 2 → IsReady small_network small_offsets run (passage stream hop) t → t ≡ due_at stream hop
   unfolding small_network small_offsets stream_at octets_of route_of link_at transfer hop_delay
-  due_is zero zero t counted below (inl (is_first, at)) = at
-  due_is (suc zero) zero t counted below (inl (is_first, at)) = at
-  due_is zero (suc zero) t counted below (inr (zero, s, next, at, after)) = let start = began (passage 0 0) s at in after ∙ ap (λ n. n + 1626) start
-  due_is (suc zero) (suc zero) t counted below (inr (zero, s, next, at, after)) = let start = began (passage 1 0) s at in after ∙ ap (λ n. n + 1626) start
-  due_is stream zero t counted below (inr (before, s, next, at, after)) = absurd (omega arith)
-  due_is stream (suc hop) t counted below (inl (is_first, at)) = absurd (omega arith)
-  due_is stream (suc zero) t counted below (inr (suc before, s, next, at, after)) = absurd (omega arith)
+  due_is zero zero t counted below (inl (sent, at)) = at
+  due_is (suc zero) zero t counted below (inl (sent, at)) = at
+  due_is zero (suc zero) t counted below (inl (sent, at)) = absurd (omega arith)
+  due_is (suc zero) (suc zero) t counted below (inl (sent, at)) = absurd (omega arith)
+  due_is zero (suc zero) t counted below (inr (zero, s, continues, at, after)) = let start = began (passage 0 0) s at in after ∙ ap (λ n. n + 1626) start
+  due_is (suc zero) (suc zero) t counted below (inr (zero, s, continues, at, after)) = let start = began (passage 1 0) s at in after ∙ ap (λ n. n + 1626) start
+  due_is stream hop t counted below (inr (suc (suc before), s, continues, at, after)) = absurd (no_start stream before s at)
+  due_is zero zero t counted below (inr (zero, s, continues, at, after)) = absurd (omega arith)
+  due_is zero zero t counted below (inr (suc zero, s, continues, at, after)) = absurd (omega arith)
+  due_is zero (suc zero) t counted below (inr (suc zero, s, continues, at, after)) = absurd (omega arith)
+  due_is (suc zero) zero t counted below (inr (zero, s, continues, at, after)) = absurd (omega arith)
+  due_is (suc zero) zero t counted below (inr (suc zero, s, continues, at, after)) = absurd (omega arith)
+  due_is (suc zero) (suc zero) t counted below (inr (suc zero, s, continues, at, after)) = absurd (omega arith)
   due_is stream (suc (suc hop)) t counted below is_ready = absurd (omega arith)
   due_is (suc (suc stream)) hop t counted below is_ready = absurd (omega arith)
 
@@ -297,19 +337,20 @@ module _ (first second : ℕ) where
       background_length = All-nil (λ (begun : BackgroundStart). begun.octets ≤ 1522);
       background_open = λ k d below. absurd (omega arith);
       passages = each_start (λ (begun : ScheduledStart). IsPassage small_network 1 begun.passage) is_passage;
+      silent = λ k d below failed. Contains-nil _ failed;
       once = λ p s t one other. began p s one ∙ sym (began p t other);
       early = λ p due is is_ready. early_by p is due is_ready;
       begun_ready = each_start (λ (begun : ScheduledStart). (due : ℕ) × IsReady small_network small_offsets run begun.passage due ×
           (ready_from ready begun.passage ≤ begun.time))
           (λ stream hop counted below. (due_at stream hop, is_due stream hop counted below, (ready_is stream hop counted below).2));
       fits = each_start (λ (begun : ScheduledStart). FitsAt small_network gates begun.passage begun.time) fits;
-      waits = λ p due t is is_ready since below unstarted. waits p is due t is_ready since unstarted;
+      waits = λ p due t is whole is_ready since below unstarted. waits p is due t is_ready since unstarted;
     }
 
 -- ---- the second frame waits for its turn, or goes first
 
 module _ (gates : List LinkGates) (has : HasWantedGates small_network small_offsets gates) where
-  fits_first : (stream hop : ℕ) → stream < 2 → hop < 2
+  pub fits_first : (stream hop : ℕ) → stream < 2 → hop < 2
       → FitsAt small_network gates (passage stream hop) (planned small_network small_offsets (passage stream hop))
   fits_first stream hop counted below = fits_planned small_network small_formed small_offsets small_valid 1 gates
       (wanted_kept small_network small_offsets gates has) (passage stream hop) (is_passage stream hop counted below)
@@ -325,11 +366,11 @@ module _ (gates : List LinkGates) (has : HasWantedGates small_network small_offs
       subst (λ l. ScheduledOpen gates l u) same window
 
   sent_first : planned small_network small_offsets (passage 0 0) ≡ 0
-  unfolding small_network small_offsets stream_at route_of start planned
+  unfolding small_network small_offsets stream_at octets_of route_of link_at transfer hop_delay ready_after start_on start planned
   sent_first = refl
 
-  sent_second : planned small_network small_offsets (passage 1 0) ≡ 672
-  unfolding small_network small_offsets stream_at route_of start planned
+  pub sent_second : planned small_network small_offsets (passage 1 0) ≡ 672
+  unfolding small_network small_offsets stream_at octets_of route_of link_at transfer hop_delay ready_after start_on start planned
   sent_second = refl
 
   all_fit : (first second : ℕ) → FitsAt small_network gates (passage 0 1) first → FitsAt small_network gates (passage 1 1) second

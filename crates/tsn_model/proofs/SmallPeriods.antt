@@ -9,7 +9,7 @@ use Rattle.tsn_model.specs.declared.Triple.{Triple}
 use Rattle.tsn_model.specs.declared.Frame.{Frame}
 use Rattle.tsn_model.specs.declared.Side.TheVariants.{Left, Right}
 use Rattle.tsn_model.specs.Network.{Network, IsWellFormed, stream_at, octets_of, turns_of, period_of, burst_of, route_of, release_of, latest_of, link_at}
-use Rattle.tsn_model.specs.Timing.{occupancy, separation, pace, spread, shifts, Sends, transfer, hop_delay, start, arrival, hop_end, span, greatest, hop_on, start_on, UsesLink}
+use Rattle.tsn_model.specs.Timing.{occupancy, separation, pace, spread, shifts, Sends, transfer, hop_delay, ready_after, start, hop_arrival, arrival, hop_end, span, greatest, hop_on, start_on, UsesLink}
 use Rattle.tsn_model.specs.Schedule.{offset_of, IsValid, flowspan, target_of, FrameOccupies, Occupies, IsConflict, Overlaps, AreApart, FitsPeriod, IsReleased, IsInTime, IsFirst, latest_offset}
 use Rattle.tsn_model.specs.Arcs.{put_in, may_meet, differences, lags_of, triples_of, is_conflict, conflicts_of, arc_between, arc_on, arc_of, arcs_of}
 use Rattle.tsn_model.specs.Certificate.{Entry, late, IsFrameOn, begin_on, end_on, least, LeadsTo, AreEntries, head_of, tail_of, work_of, busy_until, load_bound, sum_on, late_bound, beyond, decided, Accepts, Proves, AreChains, chain_at, Ties}
@@ -43,15 +43,15 @@ unfolding twice_network
 twice_formed = streams_star 20000 2 1 0 (omega arith) (omega arith) (omega arith) refl (omega arith) (omega arith) (omega arith) (omega arith)
 
 twice_whole : flowspan twice_network small_offsets ≡ 2924
-unfolding twice_network small_offsets late_offsets burst_offsets shared shared_later stream_at octets_of turns_of period_of burst_of route_of release_of latest_of link_at occupancy separation pace spread shifts transfer hop_delay start arrival hop_end span greatest hop_on start_on flowspan
+unfolding twice_network small_offsets late_offsets burst_offsets shared shared_later stream_at octets_of turns_of period_of burst_of route_of release_of latest_of link_at occupancy separation pace spread shifts transfer hop_delay start arrival hop_end span greatest hop_on start_on flowspan ready_after hop_arrival
 twice_whole = refl
 
 twice_conflicts : conflicts_of twice_network ≡ shared_later ∷ shared ∷ []
-unfolding twice_network small_offsets late_offsets burst_offsets shared shared_later stream_at octets_of turns_of period_of burst_of route_of release_of latest_of link_at occupancy separation pace spread shifts transfer hop_delay start arrival hop_end span greatest hop_on start_on lags_of differences may_meet put_in triples_of is_conflict conflicts_of
+unfolding twice_network small_offsets late_offsets burst_offsets shared shared_later stream_at octets_of turns_of period_of burst_of route_of release_of latest_of link_at occupancy separation pace spread shifts transfer hop_delay start arrival hop_end span greatest hop_on start_on lags_of differences may_meet put_in triples_of is_conflict conflicts_of ready_after hop_arrival
 twice_conflicts = refl
 
 twice_valid : IsValid twice_network small_offsets
-unfolding twice_network small_offsets late_offsets burst_offsets shared shared_later stream_at octets_of turns_of period_of burst_of route_of release_of latest_of link_at occupancy separation pace spread shifts transfer hop_delay start arrival hop_end span greatest hop_on start_on
+unfolding twice_network small_offsets late_offsets burst_offsets shared shared_later stream_at octets_of turns_of period_of burst_of route_of release_of latest_of link_at occupancy separation pace spread shifts transfer hop_delay start arrival hop_end span greatest hop_on start_on ready_after hop_arrival
 twice_valid =
     valid_from_parts twice_network small_offsets refl (both_streams (FitsPeriod twice_network small_offsets) (omega arith) (omega arith))
     (apart_two twice_network small_offsets twice_formed shared_later shared twice_conflicts
@@ -67,15 +67,15 @@ unfolding late_network
 late_formed = streams_star 20000 2 1 10000 (omega arith) (omega arith) (omega arith) refl (omega arith) (omega arith) (omega arith) (omega arith)
 
 late_whole : flowspan late_network late_offsets ≡ 12252
-unfolding late_network small_offsets late_offsets burst_offsets shared shared_later stream_at octets_of turns_of period_of burst_of route_of release_of latest_of link_at occupancy separation pace spread shifts transfer hop_delay start arrival hop_end span greatest hop_on start_on flowspan
+unfolding late_network small_offsets late_offsets burst_offsets shared shared_later stream_at octets_of turns_of period_of burst_of route_of release_of latest_of link_at occupancy separation pace spread shifts transfer hop_delay start arrival hop_end span greatest hop_on start_on flowspan ready_after hop_arrival
 late_whole = refl
 
 late_conflicts : conflicts_of late_network ≡ shared_later ∷ shared ∷ []
-unfolding late_network small_offsets late_offsets burst_offsets shared shared_later stream_at octets_of turns_of period_of burst_of route_of release_of latest_of link_at occupancy separation pace spread shifts transfer hop_delay start arrival hop_end span greatest hop_on start_on lags_of differences may_meet put_in triples_of is_conflict conflicts_of
+unfolding late_network small_offsets late_offsets burst_offsets shared shared_later stream_at octets_of turns_of period_of burst_of route_of release_of latest_of link_at occupancy separation pace spread shifts transfer hop_delay start arrival hop_end span greatest hop_on start_on lags_of differences may_meet put_in triples_of is_conflict conflicts_of ready_after hop_arrival
 late_conflicts = refl
 
 late_valid : IsValid late_network late_offsets
-unfolding late_network small_offsets late_offsets burst_offsets shared shared_later stream_at octets_of turns_of period_of burst_of route_of release_of latest_of link_at occupancy separation pace spread shifts transfer hop_delay start arrival hop_end span greatest hop_on start_on
+unfolding late_network small_offsets late_offsets burst_offsets shared shared_later stream_at octets_of turns_of period_of burst_of route_of release_of latest_of link_at occupancy separation pace spread shifts transfer hop_delay start arrival hop_end span greatest hop_on start_on ready_after hop_arrival
 late_valid =
     valid_from_parts late_network late_offsets refl (both_streams (FitsPeriod late_network late_offsets) (omega arith) (omega arith))
     (apart_two late_network late_offsets late_formed shared_later shared late_conflicts
@@ -95,15 +95,15 @@ unfolding burst_network
 burst_formed = streams_star 20000 1 2 0 (omega arith) (omega arith) (omega arith) refl (omega arith) (omega arith) (omega arith) (omega arith)
 
 burst_whole : flowspan burst_network burst_offsets ≡ 3596
-unfolding burst_network small_offsets late_offsets burst_offsets shared shared_later stream_at octets_of turns_of period_of burst_of route_of release_of latest_of link_at occupancy separation pace spread shifts transfer hop_delay start arrival hop_end span greatest hop_on start_on flowspan
+unfolding burst_network small_offsets late_offsets burst_offsets shared shared_later stream_at octets_of turns_of period_of burst_of route_of release_of latest_of link_at occupancy separation pace spread shifts transfer hop_delay start arrival hop_end span greatest hop_on start_on flowspan ready_after hop_arrival
 burst_whole = refl
 
 burst_conflicts : conflicts_of burst_network ≡ burst_later ∷ shared ∷ []
-unfolding burst_network small_offsets late_offsets burst_offsets shared shared_later stream_at octets_of turns_of period_of burst_of route_of release_of latest_of link_at occupancy separation pace spread shifts transfer hop_delay start arrival hop_end span greatest hop_on start_on burst_later lags_of differences may_meet put_in triples_of is_conflict conflicts_of
+unfolding burst_network small_offsets late_offsets burst_offsets shared shared_later stream_at octets_of turns_of period_of burst_of route_of release_of latest_of link_at occupancy separation pace spread shifts transfer hop_delay start arrival hop_end span greatest hop_on start_on burst_later lags_of differences may_meet put_in triples_of is_conflict conflicts_of ready_after hop_arrival
 burst_conflicts = refl
 
 burst_valid : IsValid burst_network burst_offsets
-unfolding burst_network small_offsets late_offsets burst_offsets shared shared_later stream_at octets_of turns_of period_of burst_of route_of release_of latest_of link_at occupancy separation pace spread shifts transfer hop_delay start arrival hop_end span greatest hop_on start_on burst_later
+unfolding burst_network small_offsets late_offsets burst_offsets shared shared_later stream_at octets_of turns_of period_of burst_of route_of release_of latest_of link_at occupancy separation pace spread shifts transfer hop_delay start arrival hop_end span greatest hop_on start_on burst_later ready_after hop_arrival
 burst_valid =
     valid_from_parts burst_network burst_offsets refl (both_streams (FitsPeriod burst_network burst_offsets) (omega arith) (omega arith))
     (apart_two burst_network burst_offsets burst_formed burst_later shared burst_conflicts
@@ -120,7 +120,7 @@ twice_shared =
     (subst (λ ts. Contains ts shared) (sym twice_conflicts) (Contains-more shared_later (shared ∷ []) shared (Contains-head shared [])))
 
 twice_left : Ties twice_network (decided [] shared Left) small_offsets (late 1 (0 ∷ [])) ([] ∷ (0 ∷ []) ∷ [])
-unfolding twice_network small_offsets late_offsets burst_offsets shared shared_later stream_at octets_of turns_of period_of burst_of route_of release_of latest_of link_at occupancy separation pace spread shifts transfer hop_delay start arrival hop_end span greatest hop_on start_on decided arcs_of arc_of arc_on arc_between sum_on late_bound flowspan
+unfolding twice_network small_offsets late_offsets burst_offsets shared shared_later stream_at octets_of turns_of period_of burst_of route_of release_of latest_of link_at occupancy separation pace spread shifts transfer hop_delay start arrival hop_end span greatest hop_on start_on decided arcs_of arc_of arc_on arc_between sum_on late_bound flowspan ready_after hop_arrival
 twice_left = record {
   bounded = tt;
   bound = (record { stream = omega arith; chain_to = one_chain _ 1 refl }, omega (arith, ints));
@@ -140,7 +140,7 @@ twice_right_chains zero below = record { stream = omega arith; chain_to = one_ch
 twice_right_chains (suc k) below = absurd (omega arith)
 
 twice_right : Ties twice_network (decided [] shared Right) small_offsets (late 0 (0 ∷ [])) ((0 ∷ []) ∷ [])
-unfolding twice_network small_offsets late_offsets burst_offsets shared shared_later stream_at octets_of turns_of period_of burst_of route_of release_of latest_of link_at occupancy separation pace spread shifts transfer hop_delay start arrival hop_end span greatest hop_on start_on decided arcs_of arc_of arc_on arc_between sum_on late_bound flowspan
+unfolding twice_network small_offsets late_offsets burst_offsets shared shared_later stream_at octets_of turns_of period_of burst_of route_of release_of latest_of link_at occupancy separation pace spread shifts transfer hop_delay start arrival hop_end span greatest hop_on start_on decided arcs_of arc_of arc_on arc_between sum_on late_bound flowspan ready_after hop_arrival
 twice_right = record {
   bounded = tt;
   bound = (record { stream = omega arith; chain_to = one_chain _ 0 refl }, omega (arith, ints));
@@ -158,11 +158,11 @@ late_shared : IsConflict late_network shared_later
 late_shared = listed_conflict late_network shared_later (subst (λ ts. Contains ts shared_later) (sym late_conflicts) (Contains-head shared_later (shared ∷ [])))
 
 late_left_bound : Proves late_network (decided [] shared_later Left) (beyond late_network (target_of late_network (Some late_offsets))) (late 1 (0 ∷ []))
-unfolding late_network small_offsets late_offsets burst_offsets shared shared_later stream_at octets_of turns_of period_of burst_of route_of release_of latest_of link_at occupancy separation pace spread shifts transfer hop_delay start arrival hop_end span greatest hop_on start_on decided arcs_of arc_of arc_on arc_between sum_on late_bound flowspan target_of beyond
+unfolding late_network small_offsets late_offsets burst_offsets shared shared_later stream_at octets_of turns_of period_of burst_of route_of release_of latest_of link_at occupancy separation pace spread shifts transfer hop_delay start arrival hop_end span greatest hop_on start_on decided arcs_of arc_of arc_on arc_between sum_on late_bound flowspan target_of beyond ready_after hop_arrival
 late_left_bound = (record { stream = omega arith; chain_to = one_chain _ 1 refl }, omega (arith, ints))
 
 late_right : Ties late_network (decided [] shared_later Right) late_offsets (late 1 []) ((0 ∷ []) ∷ [] ∷ [])
-unfolding late_network small_offsets late_offsets burst_offsets shared shared_later stream_at octets_of turns_of period_of burst_of route_of release_of latest_of link_at occupancy separation pace spread shifts transfer hop_delay start arrival hop_end span greatest hop_on start_on decided arcs_of arc_of arc_on arc_between sum_on late_bound flowspan
+unfolding late_network small_offsets late_offsets burst_offsets shared shared_later stream_at octets_of turns_of period_of burst_of route_of release_of latest_of link_at occupancy separation pace spread shifts transfer hop_delay start arrival hop_end span greatest hop_on start_on decided arcs_of arc_of arc_on arc_between sum_on late_bound flowspan ready_after hop_arrival
 late_right = record {
   bounded = tt;
   bound = (record { stream = omega arith; chain_to = at_once _ 1 }, omega (arith, ints));
@@ -182,11 +182,11 @@ late_first = accepted_first late_network late_formed late_offsets late_valid lat
 
 -- at 11,626 ns the second frame of the first stream and the second stream's would both begin on the link to C
 late_sends : Sends late_network 0 10000
-unfolding late_network small_offsets late_offsets burst_offsets shared shared_later stream_at octets_of turns_of period_of burst_of route_of release_of latest_of link_at occupancy separation pace spread shifts transfer hop_delay start arrival hop_end span greatest hop_on start_on
+unfolding late_network small_offsets late_offsets burst_offsets shared shared_later stream_at octets_of turns_of period_of burst_of route_of release_of latest_of link_at occupancy separation pace spread shifts transfer hop_delay start arrival hop_end span greatest hop_on start_on ready_after hop_arrival
 late_sends = Contains-more 0 (10000 ∷ []) 10000 (Contains-head 10000 [])
 
 late_refused : IsValid late_network (0 ∷ 10000 ∷ []) → ⊥
-unfolding late_network small_offsets late_offsets burst_offsets shared shared_later stream_at octets_of turns_of period_of burst_of route_of release_of latest_of link_at occupancy separation pace spread shifts transfer hop_delay start arrival hop_end span greatest hop_on start_on
+unfolding late_network small_offsets late_offsets burst_offsets shared shared_later stream_at octets_of turns_of period_of burst_of route_of release_of latest_of link_at occupancy separation pace spread shifts transfer hop_delay start arrival hop_end span greatest hop_on start_on ready_after hop_arrival
 late_refused valid =
     valid.disjoint 0 1 4 11626 (λ same. omega arith) refl refl
     (record { shift = 10000; sent = late_sends; frame = record { begun = omega arith; not_ended = omega arith } })
@@ -195,14 +195,14 @@ late_refused valid =
 -- ---- windows
 
 twice_shifts : shifts twice_network 0 ≡ 0 ∷ 10000 ∷ []
-unfolding twice_network small_offsets late_offsets burst_offsets shared shared_later stream_at octets_of turns_of period_of burst_of route_of release_of latest_of link_at occupancy separation pace spread shifts transfer hop_delay start arrival hop_end span greatest hop_on start_on
+unfolding twice_network small_offsets late_offsets burst_offsets shared shared_later stream_at octets_of turns_of period_of burst_of route_of release_of latest_of link_at occupancy separation pace spread shifts transfer hop_delay start arrival hop_end span greatest hop_on start_on ready_after hop_arrival
 twice_shifts = refl
 
 abbrev AreWindows : ℕ → Type 0
 AreWindows t = ((1626 ≤ t) × (t < 2970)) ⊎ ((11626 ≤ t) × (t < 12298))
 
 in_first : (shift t : ℕ) → Sends twice_network 0 shift → FrameOccupies twice_network small_offsets 0 shift 4 t → AreWindows t
-unfolding twice_network small_offsets late_offsets burst_offsets shared shared_later stream_at octets_of turns_of period_of burst_of route_of release_of latest_of link_at occupancy separation pace spread shifts transfer hop_delay start arrival hop_end span greatest hop_on start_on
+unfolding twice_network small_offsets late_offsets burst_offsets shared shared_later stream_at octets_of turns_of period_of burst_of route_of release_of latest_of link_at occupancy separation pace spread shifts transfer hop_delay start arrival hop_end span greatest hop_on start_on ready_after hop_arrival
 in_first shift t sent frame =
     let begun : 0 + shift + 1626 ≤ t = frame.begun in
     let ends : t < 0 + shift + 1626 + 672 = frame.not_ended in
@@ -215,7 +215,7 @@ in_first shift t sent frame =
     ]
 
 in_second : (shift t : ℕ) → Sends twice_network 1 shift → FrameOccupies twice_network small_offsets 1 shift 4 t → AreWindows t
-unfolding twice_network small_offsets late_offsets burst_offsets shared shared_later stream_at octets_of turns_of period_of burst_of route_of release_of latest_of link_at occupancy separation pace spread shifts transfer hop_delay start arrival hop_end span greatest hop_on start_on
+unfolding twice_network small_offsets late_offsets burst_offsets shared shared_later stream_at octets_of turns_of period_of burst_of route_of release_of latest_of link_at occupancy separation pace spread shifts transfer hop_delay start arrival hop_end span greatest hop_on start_on ready_after hop_arrival
 in_second shift t sent frame =
     let begun : 672 + shift + 1626 ≤ t = frame.begun in
     let ends : t < 672 + shift + 1626 + 672 = frame.not_ended in
@@ -230,7 +230,7 @@ to_windows (suc zero) t below occupies = in_second occupies.shift t occupies.sen
 to_windows (suc (suc i)) t below occupies = absurd (omega arith)
 
 from_windows : (t : ℕ) → AreWindows t → InWindow twice_network small_offsets 4 t
-unfolding twice_network small_offsets late_offsets burst_offsets shared shared_later stream_at octets_of turns_of period_of burst_of route_of release_of latest_of link_at occupancy separation pace spread shifts transfer hop_delay start arrival hop_end span greatest hop_on start_on
+unfolding twice_network small_offsets late_offsets burst_offsets shared shared_later stream_at octets_of turns_of period_of burst_of route_of release_of latest_of link_at occupancy separation pace spread shifts transfer hop_delay start arrival hop_end span greatest hop_on start_on ready_after hop_arrival
 from_windows t (inl sooner) =
     let begun = sooner.0 in
     elim (cases_lt t 2298) [
@@ -244,18 +244,18 @@ from_windows t (inr later) =
 -- ---- the burst
 
 burst_shifts : shifts burst_network 0 ≡ 0 ∷ 672 ∷ []
-unfolding burst_network small_offsets late_offsets burst_offsets shared shared_later stream_at octets_of turns_of period_of burst_of route_of release_of latest_of link_at occupancy separation pace spread shifts transfer hop_delay start arrival hop_end span greatest hop_on start_on
+unfolding burst_network small_offsets late_offsets burst_offsets shared shared_later stream_at octets_of turns_of period_of burst_of route_of release_of latest_of link_at occupancy separation pace spread shifts transfer hop_delay start arrival hop_end span greatest hop_on start_on ready_after hop_arrival
 burst_shifts = refl
 
 burst_arrives : arrival burst_network 0 ≡ 2924
-unfolding burst_network small_offsets late_offsets burst_offsets shared shared_later stream_at octets_of turns_of period_of burst_of route_of release_of latest_of link_at occupancy separation pace spread shifts transfer hop_delay start arrival hop_end span greatest hop_on start_on
+unfolding burst_network small_offsets late_offsets burst_offsets shared shared_later stream_at octets_of turns_of period_of burst_of route_of release_of latest_of link_at occupancy separation pace spread shifts transfer hop_delay start arrival hop_end span greatest hop_on start_on ready_after hop_arrival
 burst_arrives = refl
 
 abbrev three : List Entry
 three = record { frame = record { stream = 0; shift = 0 }; chain = [] } ∷ record { frame = record { stream = 0; shift = 672 }; chain = [] } ∷ record { frame = record { stream = 1; shift = 0 }; chain = [] } ∷ []
 
 burst_load : load_bound burst_network [] 4 three ≡ pos 3596
-unfolding burst_network small_offsets late_offsets burst_offsets shared shared_later stream_at octets_of turns_of period_of burst_of route_of release_of latest_of link_at occupancy separation pace spread shifts transfer hop_delay start arrival hop_end span greatest hop_on start_on decided arcs_of arc_of arc_on arc_between load_bound busy_until least head_of tail_of work_of begin_on end_on sum_on
+unfolding burst_network small_offsets late_offsets burst_offsets shared shared_later stream_at octets_of turns_of period_of burst_of route_of release_of latest_of link_at occupancy separation pace spread shifts transfer hop_delay start arrival hop_end span greatest hop_on start_on decided arcs_of arc_of arc_on arc_between load_bound busy_until least head_of tail_of work_of begin_on end_on sum_on ready_after hop_arrival
 burst_load = refl
 
 shifts_differ : (a b : Frame) → (a.shift ≡ b.shift → ⊥) → a ≢ b
@@ -265,11 +265,11 @@ streams_differ : (a b : Frame) → (a.stream ≡ b.stream → ⊥) → a ≢ b
 streams_differ a b differ same = differ (ap (λ (frame : Frame). frame.stream) same)
 
 on_first : (shift : ℕ) → Contains (0 ∷ 672 ∷ []) shift → IsFrameOn burst_network 4 (record { stream = 0; shift = shift })
-unfolding burst_network small_offsets late_offsets burst_offsets shared shared_later stream_at octets_of turns_of period_of burst_of route_of release_of latest_of link_at occupancy separation pace spread shifts transfer hop_delay start arrival hop_end span greatest hop_on start_on
+unfolding burst_network small_offsets late_offsets burst_offsets shared shared_later stream_at octets_of turns_of period_of burst_of route_of release_of latest_of link_at occupancy separation pace spread shifts transfer hop_delay start arrival hop_end span greatest hop_on start_on ready_after hop_arrival
 on_first shift has = record { sent = has; uses = refl }
 
 on_second : IsFrameOn burst_network 4 (record { stream = 1; shift = 0 })
-unfolding burst_network small_offsets late_offsets burst_offsets shared shared_later stream_at octets_of turns_of period_of burst_of route_of release_of latest_of link_at occupancy separation pace spread shifts transfer hop_delay start arrival hop_end span greatest hop_on start_on
+unfolding burst_network small_offsets late_offsets burst_offsets shared shared_later stream_at octets_of turns_of period_of burst_of route_of release_of latest_of link_at occupancy separation pace spread shifts transfer hop_delay start arrival hop_end span greatest hop_on start_on ready_after hop_arrival
 on_second = record { sent = Contains-head 0 []; uses = refl }
 
 at_start : (i : ℕ) → i < 2 → LeadsTo burst_network [] [] i
@@ -330,7 +330,7 @@ both_some = record {
 }
 
 burst_argued : Argues burst_network (goal_first burst_offsets) burst_steps
-unfolding burst_steps burst_network small_offsets late_offsets burst_offsets shared shared_later stream_at octets_of turns_of period_of burst_of route_of release_of latest_of link_at occupancy separation pace spread shifts transfer hop_delay start arrival hop_end span greatest hop_on start_on flowspan least begin_on end_on opposite learned learned_all refuting head_at end_at most first_head last_end work_on shown narrowed latest_offset greatest_flowspan first_ground capped settled begun ended known_with known_after
+unfolding burst_steps burst_network small_offsets late_offsets burst_offsets shared shared_later stream_at octets_of turns_of period_of burst_of route_of release_of latest_of link_at occupancy separation pace spread shifts transfer hop_delay start arrival hop_end span greatest hop_on start_on flowspan least begin_on end_on opposite learned learned_all refuting head_at end_at most first_head last_end work_on shown narrowed latest_offset greatest_flowspan first_ground capped settled begun ended known_with known_after ready_after hop_arrival
 burst_argued = (
   record {
     open_ground = is_open burst_network _ _ _ _ _ _ refl refl;

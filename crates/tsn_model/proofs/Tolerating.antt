@@ -1,17 +1,17 @@
 -- How early frames may be ready on a link, told by the starts that are planned there in one cycle.
-use Rattle.std.proofs.Common.{◌≡◌, ℕ, ◌+◌, ◌-◌, ◌*◌, ◌≤◌, ◌<◌, ◌↔◌, List, length, get_or, All, AllPairs, Some, sym, ap, ◌∙◌, subst, arith, inl, inr, nat_lt, lt-ltb, le-ltb}
+use Rattle.std.proofs.Common.{◌≡◌, ℕ, ◌+◌, ◌-◌, ◌*◌, ◌≤◌, ◌<◌, ◌↔◌, List, length, get_or, All, AllPairs, sym, ap, ◌∙◌, subst, arith, inl, inr, nat_lt, lt-ltb, le-ltb}
 use Rattle.std.proofs.lemmas.Bool.{cases_lt, cases_order, cond-true, cond-false}
 use Rattle.std.proofs.lemmas.List.{get_or_default}
 use Rattle.std.proofs.lemmas.List.Elements.{All-contains}
-use Rattle.tsn_model.specs.Network.{Network, IsWellFormed, stream_count, hop_count, route_link}
-use Rattle.tsn_model.specs.Timing.{hop_delay, Sends, UsesLink, start_on, hop_on}
+use Rattle.tsn_model.specs.Network.{Network, IsWellFormed, stream_count, route_of, hop_count, route_link, link_at, to_at, Continues}
+use Rattle.tsn_model.specs.Timing.{hop_delay, Sends, UsesLink, start_on}
 use Rattle.tsn_model.specs.Schedule.{IsValid}
 use Rattle.tsn_model.specs.Bridge.{Passage, link_of, IsPassage, planned}
 use Rattle.tsn_model.specs.Early.{AreSpacedOn, ToleratesOn}
 use Rattle.tsn_model.specs.PlainWords.{Under}
 use Rattle.tsn_model.specs.Tolerance.{planned_on, AreStartsOn, distance, AreFar}
-use Rattle.tsn_model.proofs.Routes.{use_of, UsesLink-counted, occupancy-pos, window-le-cycle, hop_on_found, hop_on_link}
-use Rattle.tsn_model.proofs.Hops.{cycle_below, hop_once, hop_uses, hop_start}
+use Rattle.tsn_model.proofs.Routes.{use_of, UsesLink-counted, occupancy-pos, window-le-cycle}
+use Rattle.tsn_model.proofs.Hops.{cycle_below, hop_uses, hop_start}
 use Rattle.tsn_model.proofs.OnTime.{none_tolerated}
 
 -- ---- the least of some numbers
@@ -126,41 +126,31 @@ module _ (cycle : ℕ) (starts : List ℕ) (some : 0 < length starts) (in_order 
         )),
   )
 
--- ---- the hop before the link
-
--- a stream has one hop over the link
-pub hop_is : (network : Network) → IsWellFormed network → (i link hop k : ℕ) → i < stream_count network → hop_on network i link ≡ Some hop
-    → k < hop_count network i → route_link network i k ≡ link → hop ≡ k
-hop_is network formed i link hop k counted found within same =
-    let at = hop_on_found network i link hop found in
-    hop_once network formed i counted hop k at.1 within (hop_on_link network i link hop found ∙ sym same)
+-- ---- the hop that the one over the link continues
 
 abbrev pub IsPastDelay : Network → ℕ → ℕ → ℕ → Type 0
-IsPastDelay network link i slack = (k : ℕ) → k + 1 < hop_count network i → route_link network i (k + 1) ≡ link → slack < hop_delay network i
-    (route_link network i k)
+IsPastDelay network link i slack = (before k : ℕ) → before < hop_count network i → k < hop_count network i → Continues network (route_of network i) before k
+    → route_link network i k ≡ link
+    → slack < hop_delay network i (route_link network i before)
 
 pub no_hop : (network : Network) → IsWellFormed network → (i link slack : ℕ) → i < stream_count network → (UsesLink network i link → ⊥)
     → IsPastDelay network link i slack
-no_hop network formed i link slack counted unused k within same = absurd (unused
-    (subst (UsesLink network i) same (hop_uses network formed i counted (k + 1) within)))
+no_hop network formed i link slack counted unused before k before_within within continues same = absurd (unused
+    (subst (UsesLink network i) same (hop_uses network formed i counted k within)))
 
-pub first_hop : (network : Network) → IsWellFormed network → (i link hop slack : ℕ) → i < stream_count network → hop_on network i link ≡ Some hop → hop ≡ 0
-    → IsPastDelay network link i slack
-first_hop network formed i link hop slack counted found is_first k within same = let is = hop_is network formed i link hop
-    (k + 1) counted found within same in absurd (omega arith)
+-- of the hop of that place, if it ends where the link begins
+abbrev pub IsPastHop : Network → ℕ → ℕ → ℕ → ℕ → Type 0
+IsPastHop network link i before slack = to_at network (route_of network i) before ≡ (link_at network link).from
+    → slack < hop_delay network i (route_link network i before)
 
-pub later_hop : (network : Network) → IsWellFormed network → (i link hop slack : ℕ) → i < stream_count network → hop_on network i link ≡ Some hop
-    → (hop ≡ 0 → ⊥)
-    → (slack < hop_delay network i (route_link network i (hop - 1))) ↔ IsPastDelay network link i slack
-later_hop network formed i link hop slack counted found later = (
-  (λ less k within same.
-      let is = hop_is network formed i link hop (k + 1) counted found within same in
-      let before : hop - 1 ≡ k = omega arith in
-      subst (λ h. slack < hop_delay network i (route_link network i h)) before less),
-  (λ past.
-      let at = hop_on_found network i link hop found in
-      let more : hop - 1 + 1 ≡ hop = omega arith in
-      past (hop - 1) (omega (arith, at.1)) (ap (route_link network i) more ∙ hop_on_link network i link hop found)),
+pub past_all : (network : Network) (i link slack : ℕ) → UsesLink network i link
+    → ((before : ℕ) → before < hop_count network i → IsPastHop network link i before slack) ↔ IsPastDelay network link i slack
+past_all network i link slack used = (
+  (λ each before k before_within within continues same.
+      each before before_within (continues ∙ ap (λ l. (link_at network l).from) same)),
+  (λ past before before_within ends.
+      let at = use_of network i link used in
+      past before at.hop before_within at.counted (ends ∙ sym (ap (λ l. (link_at network l).from) at.same_link)) at.same_link),
 )
 
 -- ---- what the link tolerates
@@ -279,7 +269,7 @@ module _ (network : Network) (formed : IsWellFormed network) (offsets : List ℕ
           (All-contains (λ from. All (λ to. slack < distance network.cycle from to) starts) starts (planned_on network offsets link i shift) below.0
           (are.all_uses i shift i_uses sent))
           (are.all_uses j other j_uses other_sent));
-      after_start = λ j k counted inside same. below.1 j counted k inside same;
+      after_start = λ j before k counted before_inside inside continues same. below.1 j counted before k before_inside inside continues same;
     }),
     (λ tolerates. (
       (λ j d j_below k e k_below.
@@ -288,7 +278,7 @@ module _ (network : Network) (formed : IsWellFormed network) (offsets : List ℕ
           subst (λ t. slack < distance network.cycle t (get_or starts k e)) (sym from.4)
           (subst (λ t. slack < distance network.cycle (planned_on network offsets link from.0 from.1) t) (sym to.4)
           (to_past tolerates.spaced from.0 from.1 from.2 from.3 to.0 to.1 to.2 to.3))),
-      (λ j counted k inside same. tolerates.after_start j k counted inside same),
+      (λ j counted before k before_inside inside continues same. tolerates.after_start j before k counted before_inside inside continues same),
     )),
   )
 

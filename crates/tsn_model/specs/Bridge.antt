@@ -5,7 +5,7 @@
 --     Background, IsFed                               where its background frames come from
 --     StartsOnTime                                    no scheduled frame waits
 use Rattle.std.specs.Prelude.{◌≡◌, ◌≢◌, ℕ, ◌+◌, ◌*◌, ◌%◌, ◌≤◌, ◌<◌, ◌⊎◌, List, [], ◌++◌, map, length, slice_index_or, All, AllPairs, Any, Contains, IsBitSet, bit_and}
-use Rattle.tsn_model.specs.Network.{Network, stream_count, hop_count, route_link, link_at}
+use Rattle.tsn_model.specs.Network.{Network, stream_count, route_of, hop_count, route_link, link_at, IsSent, Continues}
 use Rattle.tsn_model.specs.Timing.{occupancy, hop_delay, Sends, start, UsesLink}
 use Rattle.tsn_model.specs.Schedule.{offset_of}
 use Rattle.tsn_model.specs.declared.GateEntry.{GateEntry}
@@ -94,11 +94,11 @@ StartedAt run passage t = Contains run.scheduled (record { passage = passage; ti
 abbrev pub NotStartedBefore : BridgeRun → Passage → ℕ → Type 0
 NotStartedBefore run passage t = (s : ℕ) → StartedAt run passage s → t ≤ s
 
--- the passage may start from instant t on: at its offset and shift on the first hop, and on the next as the timing says from its actual start
+-- the passage may start from instant t on: at its offset and shift where the talker sends, and on each link that continues one as the timing says from its actual start there; so a frame that comes in goes into the queue of each link that continues the one that it came by
 abbrev pub IsReady : Network → List ℕ → BridgeRun → Passage → ℕ → Type 0
 IsReady network offsets run passage t =
-    ((passage.hop ≡ 0) × (t ≡ passage.cycle * network.cycle + offset_of offsets passage.stream + passage.shift))
-    ⊎ ((before : ℕ) × (s : ℕ) × (passage.hop ≡ before + 1) × StartedAt run (record passage { hop = before }) s
+    (IsSent network (route_of network passage.stream) passage.hop × (t ≡ passage.cycle * network.cycle + offset_of offsets passage.stream + passage.shift))
+    ⊎ ((before : ℕ) × (s : ℕ) × Continues network (route_of network passage.stream) before passage.hop × StartedAt run (record passage { hop = before }) s
     × (t ≡ s + hop_delay network passage.stream (route_link network passage.stream before)))
 
 -- the scheduled class is open from instant t until the passage's occupancy would end

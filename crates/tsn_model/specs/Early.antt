@@ -1,12 +1,15 @@
 -- Bridges whose frames may be ready sooner than the timing says, since processing takes now less and now more, and clocks differ (IEEE Std 802.1AS).
---     IsDelayed, IsEarlyRun                                what a run keeps in which frames may be ready early
+--     IsDelayed, IsEarlyRunWithout, IsEarlyRun             what a run keeps in which frames may be ready early, and links may have failed
 --     AreSpacedOn, ToleratesOn, Tolerates                  how early frames may be ready
---     readiness, HoldsTo, ToleratesLead, slack_sum         the same where gates may be open for longer
+--     place_before, readiness, HoldsTo, HoldsToWithout     the same where gates may be open for longer
+--     ToleratesLead, slack_sum
 --     StartsInTime                                         what then holds
-use Rattle.std.specs.Prelude.{◌≡◌, ◌≢◌, ℕ, ◌+◌, ◌-◌, ◌*◌, ◌≤◌, ◌<◌, ◌==◌, ◌⊎◌, if◌then◌else◌, List, take, sum_by, All, AllPairs, Any}
-use Rattle.tsn_model.specs.Network.{Network, stream_count, route_of, hop_count, route_link}
+use Rattle.std.specs.Prelude.{◌≡◌, ◌≢◌, ℕ, ◌+◌, ◌*◌, ◌≤◌, ◌<◌, zero, suc, ◌==◌, ◌⊎◌, nat_lt, if◌then◌else◌, List, [], All, AllPairs, Any, Contains}
+use Rattle.std.specs.List.{position_or_len}
+use Rattle.tsn_model.specs.Network.{Network, stream_count, route_of, hop_count, route_link, link_at, from_at, Continues}
 use Rattle.tsn_model.specs.Timing.{hop_delay}
 use Rattle.tsn_model.specs.Bridge.{LinkGates, BackgroundOpen, Passage, ScheduledStart, BackgroundStart, BridgeRun, WireUse, link_of, length_of, wire_uses, AreDisjoint, IsPassage, StartedAt, NotStartedBefore, IsReady, FitsAt, planned}
+use Rattle.tsn_model.specs.Failures.{IsIntact}
 
 -- All times of a link, of its gates, its starts and its queue, are by the clock of the node that sends on it.
 --
@@ -20,19 +23,24 @@ IsDelayed network offsets gates cycles ready run passage t =
     ⊎ ((other : Passage) × (due : ℕ) × IsPassage network cycles other × (other ≢ passage) × (link_of network other ≡ link_of network passage)
     × IsReady network offsets run other due × (ready other ≤ ready passage) × NotStartedBefore run other t)
 
--- a run of bridges by these gates, for that many cycles, in which each passage is ready at the instant that the timing says, or sooner by at most its link's slack
-pub record IsEarlyRun (network : Network) (offsets : List ℕ) (gates : List LinkGates) (cycles : ℕ) (slack : ℕ → ℕ) (ready : Passage → ℕ) (run : BridgeRun) : Type 0 where
+-- a run of bridges by these gates, for that many cycles, in which each passage is ready at the instant that the timing says, or sooner by at most its link's slack, and none starts on a failed link
+pub record IsEarlyRunWithout (failed : List ℕ) (network : Network) (offsets : List ℕ) (gates : List LinkGates) (cycles : ℕ) (slack : ℕ → ℕ) (ready : Passage → ℕ) (run : BridgeRun) : Type 0 where
   pub wires_shared : AllPairs AreDisjoint (wire_uses network run)
   pub uses_begin : All (λ (wire : WireUse). wire.from < cycles * network.cycle) (wire_uses network run)
   pub background_length : All (λ (begun : BackgroundStart). begun.octets ≤ 1522) run.background
   pub background_open : All (λ (begun : BackgroundStart). BackgroundOpen gates begun.link begun.time) run.background
   pub passages : All (λ (begun : ScheduledStart). IsPassage network cycles begun.passage) run.scheduled
+  pub silent : All (λ (begun : ScheduledStart). Contains failed (link_of network begun.passage) → ⊥) run.scheduled
   pub once : (passage : Passage) (s t : ℕ) → StartedAt run passage s → StartedAt run passage t → s ≡ t
   pub early : (passage : Passage) (due : ℕ) → IsPassage network cycles passage → IsReady network offsets run passage due → (ready passage ≤ due) × (due ≤ ready passage + slack (link_of network passage))
   pub begun_ready : All (λ (begun : ScheduledStart). (due : ℕ) × IsReady network offsets run begun.passage due × (ready begun.passage ≤ begun.time)) run.scheduled
   pub fits : All (λ (begun : ScheduledStart). FitsAt network gates begun.passage begun.time) run.scheduled
-  pub waits : (passage : Passage) (due t : ℕ) → IsPassage network cycles passage → IsReady network offsets run passage due → ready passage ≤ t → t < cycles * network.cycle
+  pub waits : (passage : Passage) (due t : ℕ) → IsPassage network cycles passage → (Contains failed (link_of network passage) → ⊥) → IsReady network offsets run passage due → ready passage ≤ t → t < cycles * network.cycle
       → NotStartedBefore run passage (t + 1) → IsDelayed network offsets gates cycles ready run passage t
+
+-- and no link has failed
+abbrev pub IsEarlyRun : Network → List ℕ → List LinkGates → ℕ → (ℕ → ℕ) → (Passage → ℕ) → BridgeRun → Type 0
+IsEarlyRun = IsEarlyRunWithout []
 
 -- ---- how early frames may be ready
 
@@ -44,7 +52,7 @@ AreSpacedOn network offsets link early = (cycles : ℕ) (first second : Passage)
 -- on the link the slack is less than the time between planned starts, so that no frame is ready before an earlier one has its turn; and less than the delay of each hop to it, so that none is ready before it started on the hop before
 pub record ToleratesOn (network : Network) (offsets : List ℕ) (link slack : ℕ) : Type 0 where
   pub spaced : AreSpacedOn network offsets link (λ (passage : Passage). slack)
-  pub after_start : (i k : ℕ) → i < stream_count network → k + 1 < hop_count network i → route_link network i (k + 1) ≡ link → slack < hop_delay network i (route_link network i k)
+  pub after_start : (i before k : ℕ) → i < stream_count network → before < hop_count network i → k < hop_count network i → Continues network (route_of network i) before k → route_link network i k ≡ link → slack < hop_delay network i (route_link network i before)
 
 -- the slack of each link is so
 abbrev pub Tolerates : Network → List ℕ → (ℕ → ℕ) → Type 0
@@ -52,9 +60,14 @@ Tolerates network offsets slack = (link : ℕ) → ToleratesOn network offsets l
 
 -- ---- where gates may be open for longer
 
--- by how much a passage may be ready early where passages start early by at most the lead
+-- the place of the link that the link of place k continues; past the last one where the talker sends
+unfoldable pub place_before : Network → List ℕ → ℕ → ℕ
+place_before network route k = position_or_len (λ link. (link_at network link).to == from_at network route k) route
+
+-- by how much a passage may be ready early where passages start early by at most the lead: by that on the link that it continues, if it continues one, and its own link's slack
 unfoldable pub readiness : Network → (ℕ → ℕ) → (Passage → ℕ) → Passage → ℕ
-readiness network slack lead passage = (if passage.hop == 0 then 0 else lead (record passage { hop = passage.hop - 1 })) + slack (link_of network passage)
+readiness network slack lead passage =
+    (if nat_lt (place_before network (route_of network passage.stream) passage.hop) (hop_count network passage.stream) then lead (record passage { hop = place_before network (route_of network passage.stream) passage.hop }) else 0) + slack (link_of network passage)
 
 -- where the gates let a passage start early by more than its lead, as soon as it may be ready, it is another passage's turn on the link, which by that one's lead isn't over
 abbrev pub HoldsTo : Network → List ℕ → List LinkGates → (ℕ → ℕ) → (Passage → ℕ) → Type 0
@@ -63,14 +76,26 @@ HoldsTo network offsets gates slack lead = (cycles : ℕ) (passage : Passage) (t
     → (other : Passage) × IsPassage network cycles other × (link_of network other ≡ link_of network passage)
     × (planned network offsets other ≤ t) × (t + lead other < planned network offsets other + length_of network other)
 
+-- the same where links have failed: to the other passage's link a whole way leads, since else it doesn't come, and its turn is free
+abbrev pub HoldsToWithout : List ℕ → Network → List ℕ → List LinkGates → (ℕ → ℕ) → (Passage → ℕ) → Type 0
+HoldsToWithout failed network offsets gates slack lead = (cycles : ℕ) (passage : Passage) (t : ℕ) → IsPassage network cycles passage
+    → planned network offsets passage ≤ t + readiness network slack lead passage → t + lead passage < planned network offsets passage → FitsAt network gates passage t
+    → (other : Passage) × IsPassage network cycles other × IsIntact failed network (route_of network other.stream) other.hop × (link_of network other ≡ link_of network passage)
+    × (planned network offsets other ≤ t) × (t + lead other < planned network offsets other + length_of network other)
+
 -- of two passages of one link the one planned later is so by more than it may be ready early; and slacks are less than the delays of the hops before
 pub record ToleratesLead (network : Network) (offsets : List ℕ) (slack : ℕ → ℕ) (lead : Passage → ℕ) : Type 0 where
   pub spaced : (link : ℕ) → AreSpacedOn network offsets link (readiness network slack lead)
-  pub after_start : (i k : ℕ) → i < stream_count network → k + 1 < hop_count network i → slack (route_link network i (k + 1)) < hop_delay network i (route_link network i k)
+  pub after_start : (i before k : ℕ) → i < stream_count network → before < hop_count network i → k < hop_count network i → Continues network (route_of network i) before k → slack (route_link network i k) < hop_delay network i (route_link network i before)
 
--- the slacks of a passage's links so far: a lead to which nothing need hold
+-- the slacks of so many links on a passage's way, from its own back to the talker
+unfoldable pub slacks_back : Network → (ℕ → ℕ) → ℕ → Passage → ℕ
+slacks_back network slack zero passage = 0
+slacks_back network slack (suc count) passage = readiness network slack (slacks_back network slack count) passage
+
+-- the slacks of all links on its way: a lead to which nothing need hold
 unfoldable pub slack_sum : Network → (ℕ → ℕ) → Passage → ℕ
-slack_sum network slack passage = sum_by slack (take (passage.hop + 1) (route_of network passage.stream))
+slack_sum network slack passage = slacks_back network slack (passage.hop + 1) passage
 
 -- each scheduled frame starts on each hop by its planned instant, and early by at most the lead
 abbrev pub StartsInTime : Network → List ℕ → ℕ → (Passage → ℕ) → BridgeRun → Type 0

@@ -34,11 +34,11 @@ pub const MAX_BURST: u64 = 16;
 /// The longest from the first frame of a period to the last.
 pub const MAX_SPREAD: u64 = (MAX_BURST - 1) * MAX_OCCUPANCY;
 
-/// The latest start on a hop, counted from a frame's start on the first one: a route has at most 16 hops.
-pub const MAX_START: u64 = 16 * MAX_HOP_DELAY;
+/// The latest start on a hop, counted from a frame's start on the first one: a route has at most 64 hops.
+pub const MAX_START: u64 = 64 * MAX_HOP_DELAY;
 
 /// The latest arrival and the latest end of an occupancy, counted from the stream's offset, are below this.
-pub const MAX_SPAN: u64 = 80_000_000;
+pub const MAX_SPAN: u64 = 230_000_000;
 
 /// The most frames that all streams together send in a cycle.
 pub const MAX_FRAMES: u64 = 1024;

@@ -1,7 +1,7 @@
 //! How early frames may be ready on a link, in nanoseconds.
 
 ghost use Rattle.std.specs.Prelude.{◌≡◌, ◌+◌, ◌≤◌, ◌<◌, ◌↔◌, ℕ, List, length, All, AllPairs};
-ghost use Rattle.tsn_model.specs.Network.{stream_count, hop_count, route_link};
+ghost use Rattle.tsn_model.specs.Network.{stream_count, route_of, hop_count, route_link, Continues};
 ghost use Rattle.tsn_model.specs.Timing.{hop_delay};
 ghost use Rattle.tsn_model.specs.Schedule.{IsValid};
 ghost use Rattle.tsn_model.specs.Early.{ToleratesOn};
@@ -37,10 +37,10 @@ fn least_gap(cycle: u64, starts: &[u64]) -> u64
     least
 }
 
-// The least delay of a hop whose next one goes over the link, at most `most`.
+// The least delay of a hop that one over the link continues, at most `most`.
 fn least_delay(network: &PlainNetwork, link: usize, most: u64) -> u64
     ensures { Under result most (λ slack. (i : ℕ) → i < stream_count network.now
-        → ((k : ℕ) → k + 1 < hop_count network.now i → route_link network.now i (k + 1) ≡ link → slack < hop_delay network.now i (route_link network.now i k))) }
+        → ((before k : ℕ) → before < hop_count network.now i → k < hop_count network.now i → Continues network.now (route_of network.now i) before k → route_link network.now i k ≡ link → slack < hop_delay network.now i (route_link network.now i before))) }
 {
     let mut least = most;
     for i in 0..network.streams() {
@@ -49,18 +49,23 @@ fn least_delay(network: &PlainNetwork, link: usize, most: u64) -> u64
     least
 }
 
-// The delay of the hop of stream `i` before the link, if there is one, at most `most`.
+// The delay of the hop of stream `i` that its hop over the link continues, if there is one, at most `most`.
 fn delay_before(network: &PlainNetwork, link: usize, i: usize, most: u64) -> u64
     requires { i < stream_count network.now }
-    ensures { Under result most (λ slack. (k : ℕ) → k + 1 < hop_count network.now i → route_link network.now i (k + 1) ≡ link → slack < hop_delay network.now i (route_link network.now i k)) }
+    ensures { Under result most (λ slack. (before k : ℕ) → before < hop_count network.now i → k < hop_count network.now i → Continues network.now (route_of network.now i) before k → route_link network.now i k ≡ link → slack < hop_delay network.now i (route_link network.now i before)) }
 {
     // The network is within its limits.
     let _limits = network.cycle();
-    let Some(hop) = network.hop_on(i, link) else {
-        return most;
-    };
-    if hop == 0 {
+    if network.hop_on(i, link).is_none() {
         return most;
     }
-    most.min(network.hop_delay(i, network.route_link(i, hop - 1)))
+    let from = network.link(link).from;
+    let mut least = most;
+    for k in 0..network.hops(i) {
+        let before = network.route_link(i, k);
+        if network.link(before).to == from {
+            least = least.min(network.hop_delay(i, before));
+        }
+    }
+    least
 }
