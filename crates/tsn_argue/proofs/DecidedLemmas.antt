@@ -32,21 +32,21 @@ pub record Place (network : Network) (first second link : ℕ) : Type 0 where
   pub hop : ℕ
   pub found : hop_on network first link ≡ Some hop
   pub same_link : route_link network first hop ≡ link
-  pub few_hops : hop < 16
+  pub few_hops : hop < 64
   pub few_streams : stream_count network ≤ 128
   pub first_counted : first < stream_count network
   pub second_counted : second < stream_count network
-  pub is : place_by network first second link ≡ first * 2048 + hop * 128 + second
+  pub is : place_by network first second link ≡ first * 8192 + hop * 128 + second
 
 some_is : {X : Type 0} (o : Option X) → IsSome o → (x : X) × (o ≡ Some x)
 some_is (Some x) is = (x, refl)
 some_is None is = cc
 
-pub hop_few : (network : Network) (i link hop : ℕ) → IsWellFormed network → UsesLink network i link → hop_on network i link ≡ Some hop → hop < 16
+pub hop_few : (network : Network) (i link hop : ℕ) → IsWellFormed network → UsesLink network i link → hop_on network i link ≡ Some hop → hop < 64
 unfolding route_of stream_at
 hop_few network i link hop formed uses found =
     let stream : IsStream network (stream_at network i) = formed.streams i no_stream (UsesLink-counted network i link uses) in
-    let few : hop_count network i ≤ 16 = stream.route.few_links in
+    let few : hop_count network i ≤ 64 = stream.route.few_links in
     let below : hop < hop_count network i = (hop_on_found network i link hop found).1 in
     omega arith
 
@@ -62,7 +62,7 @@ place_at network first second link formed uses other_uses =
       few_streams = formed.few_streams;
       first_counted = UsesLink-counted network first link uses;
       second_counted = UsesLink-counted network second link other_uses;
-      is = ap (λ o. first * 2048 + unwrap_or o 0 * 128 + second) at.1;
+      is = ap (λ o. first * 8192 + unwrap_or o 0 * 128 + second) at.1;
     }
 
 -- of one place the first streams are one, and so are the second ones and the links
@@ -70,7 +70,7 @@ place_parts : (network : Network) (a b link c d other : ℕ) → Place network a
     → place_by network a b link ≡ place_by network c d other
     → (a ≡ c) × (b ≡ d) × (link ≡ other)
 place_parts network a b link c d other one two same =
-    let sums : a * 2048 + one.hop * 128 + b ≡ c * 2048 + two.hop * 128 + d = sym one.is ∙ same ∙ two.is in
+    let sums : a * 8192 + one.hop * 128 + b ≡ c * 8192 + two.hop * 128 + d = sym one.is ∙ same ∙ two.is in
     let firsts : a ≡ c = omega (arith, sums, one.few_hops, two.few_hops, one.few_streams, one.second_counted, two.second_counted) in
     let hops : one.hop ≡ two.hop = omega (arith, sums, firsts, one.few_streams, one.second_counted, two.second_counted) in
     let seconds : b ≡ d = omega (arith, sums, firsts, hops) in
@@ -183,14 +183,14 @@ is_in list k decision at = (k, slice_get_within list k decision at, get_or_from_
 there_is : {X : Type 0} (xs : List X) (k : ℕ) (x : X) → k < length xs → x ≡ get_or xs k x → slice_get xs k ≡ Some x
 there_is xs k x below is = slice_get-get_or xs k x below ∙ ap Some (sym is)
 
-entry_is : (network : Network) (list : List Decision) (places : List ℕ) (place first : ℕ) → ArePlaced network list places → place < stream_count network * 2048
+entry_is : (network : Network) (list : List Decision) (places : List ℕ) (place first : ℕ) → ArePlaced network list places → place < stream_count network * 8192
     → first ≡ get_or places place first → get_or places place 0 ≡ first
 entry_is network list places place first placed inside is =
-    let long : length places ≡ stream_count network * 2048 = placed.long in
+    let long : length places ≡ stream_count network * 8192 = placed.long in
     get_or_from_slice_get places place first 0 (there_is places place first (omega (arith, long, inside)) is)
 
 module _ (network : Network) (list : List Decision) (places : List ℕ) (decision : Decision) (place first : ℕ) (placed : ArePlaced network list places)
-    (first_frames : decision.triple.lag ≡ pos 0) (same_place : place ≡ place_of network decision) (inside : place < stream_count network * 2048)
+    (first_frames : decision.triple.lag ≡ pos 0) (same_place : place ≡ place_of network decision) (inside : place < stream_count network * 8192)
     (entry : first ≡ get_or places place first) where
   has_entry : Contains list decision → (first < length list) × (slice_get list first ≡ Some decision)
   has_entry has =
@@ -283,10 +283,10 @@ module _ (network : Network) (list : List Decision) (places : List ℕ) (more : 
   }
 
   -- a new one, whose place in the table gets its place in the list
-  pub placed_new : IsWellFormed network → more.triple.lag ≡ pos 0 → (Contains list more → ⊥) → place_of network more < stream_count network * 2048
+  pub placed_new : IsWellFormed network → more.triple.lag ≡ pos 0 → (Contains list more → ⊥) → place_of network more < stream_count network * 8192
       → ArePlaced network (list ++ more ∷ []) (slice_set places (place_of network more) (length list))
   placed_new formed first none inside =
-      let long : length places ≡ stream_count network * 2048 = placed.long in
+      let long : length places ≡ stream_count network * 8192 = placed.long in
       let there : place_of network more < length places = omega (arith, long, inside) in
       let own : get_or (slice_set places (place_of network more) (length list)) (place_of network more) 0 ≡ length list =
       get_or-set_same places (place_of network more) (length list) 0 there in

@@ -97,8 +97,8 @@ pub record IsWalked (network : Network) (view : View) (start : ℕ) (ds : List D
   pub all : All (Contains view.orders) (take k ds)
   pub leads : LeadsBy network start (take k ds) at
   pub weighs : weight ≡ weight_by network (take k ds)
-  pub low : pos 0 ≤ℤ (weight +ℤ pos (k * 1060000000))
-  pub high : weight ≤ℤ pos (k * 1060000000)
+  pub low : pos 0 ≤ℤ (weight +ℤ pos (k * 1210000000))
+  pub high : weight ≤ℤ pos (k * 1210000000)
 
 -- one more fact of a clause
 module _ (view : View) (clause : List Fact) (k : ℕ) (d : Fact) (below : k < length clause) where

@@ -16,7 +16,7 @@ pub record Orders : Type 0 where
 
 -- the place of a stream that goes first on a hop of it, before another one
 abbrev pub place_by : Network → ℕ → ℕ → ℕ → ℕ
-place_by network first second link = first * 2048 + unwrap_or (hop_on network first link) 0 * 128 + second
+place_by network first second link = first * 8192 + unwrap_or (hop_on network first link) 0 * 128 + second
 
 -- the place of a decision in the table
 abbrev pub place_on : Network → Triple → Side → ℕ
@@ -28,7 +28,7 @@ place_of network decision = place_on network decision.triple decision.side
 
 -- for each decision of the list whose lag is 0 the table tells one that is equal, and stands no later
 pub record ArePlaced (network : Network) (list : List Decision) (places : List ℕ) : Type 0 where
-  pub long : length places ≡ stream_count network * 2048
+  pub long : length places ≡ stream_count network * 8192
   pub conflicts : All (λ decision. IsConflict network decision.triple) list
   pub placed : (k : ℕ) (decision : Decision) → slice_get list k ≡ Some decision → decision.triple.lag ≡ pos 0
       → (slice_index_or places (place_of network decision) 0 ≤ k) × (slice_get list (slice_index_or places (place_of network decision) 0) ≡ Some decision)

@@ -68,8 +68,8 @@ pub record IsArcIn (network : Network) (view : View) (decision : Decision) (arc 
   pub is : arc ≡ arc_of network decision
   pub from : arc.from < stream_count network
   pub to : arc.to < stream_count network
-  pub low : pos 0 ≤ℤ (arc.weight +ℤ pos 1060000000)
-  pub high : arc.weight ≤ℤ pos 1060000000
+  pub low : pos 0 ≤ℤ (arc.weight +ℤ pos 1210000000)
+  pub high : arc.weight ≤ℤ pos 1210000000
 
 abbrev pub FindsArc : Network → View → Decision → Result Arc Wrong → Type 0
 FindsArc network view decision (Ok arc) = IsArcIn network view decision arc

@@ -11,7 +11,7 @@ use tsn_model::{Decision, NoMemory, Side};
 use tsn_timing::{Timing, is_conflict};
 
 /// How many places each stream has: one for each of its hops and each other stream.
-const PLACES: usize = 2048;
+const PLACES: usize = 8192;
 
 /// The decisions of the ground, and behind them those of the view. A table tells where the first one like one of lag 0 stands.
 #[derive(Drop)]

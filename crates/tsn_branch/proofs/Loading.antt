@@ -17,7 +17,8 @@ use Rattle.tsn_model.specs.Certificate.{least}
 use Rattle.tsn_branch.specs.Links.{users_of, shared_links, work_on, tail_on, head_by, busy_by, load_by, IsUnloaded}
 use Rattle.tsn_branch.specs.Loads.{SharedLink, IsEarly, head_in, link_in, user_on, link_with, shared_link, users_upto, shared_upto}
 use Rattle.tsn_model.proofs.Lists.{least-map_push, least-one, range_more}
-use Rattle.tsn_model.proofs.Limits.{start-le, separation-le, transfer-le, hops-pos, route_exists, spread-le}
+use Rattle.tsn_model.proofs.Limits as limits
+use Rattle.tsn_model.proofs.Limits.{start-le, separation-le}
 use Rattle.tsn_model.proofs.Routes.{use_of, UsesLink-counted, UsesLink-exists}
 use Rattle.tsn_branch.specs.declared.loads.User.{User}
 use Rattle.tsn_branch.specs.declared.loads.LinkTable.{LinkTable}
@@ -157,7 +158,7 @@ module _ (network : Network) (formed : IsWellFormed network) (link : ℕ) where
       let few = formed.few_streams in
       omega (arith, few, length-filter-le (λ i. is_some (hop_on network i link)) (range_with_len 0 (stream_count network)), length-range_with_len 0 (stream_count network))
 
-  pub start_on-le : (i : ℕ) → UsesLink network i link → start_on network i link ≤ 51584000
+  pub start_on-le : (i : ℕ) → UsesLink network i link → start_on network i link ≤ 206336000
   start_on-le i uses =
       let used = use_of network i link uses in
       let same = used.same_start in
@@ -167,16 +168,9 @@ module _ (network : Network) (formed : IsWellFormed network) (link : ℕ) where
   pub keeps-le : (i : ℕ) → UsesLink network i link → separation network i link ≤ 1233600
   keeps-le i uses = separation-le network formed i link (UsesLink-counted network i link uses) (UsesLink-exists network i link formed uses)
 
-  pub arrival-le : (i : ℕ) → UsesLink network i link → arrival network i ≤ 80000000
-  unfolding arrival
+  pub arrival-le : (i : ℕ) → UsesLink network i link → arrival network i ≤ 230000000
   arrival-le i uses =
-      let counted = UsesLink-counted network i link uses in
-      let some = hops-pos network formed i counted in
-      let last = hop_count network i - 1 in
-      let begins = start-le network formed i last counted in
-      let spreads = spread-le network formed i counted in
-      let exists : route_link network i last < length network.links = route_exists network formed i counted last 0 (omega arith) in
-      let takes = transfer-le network formed i (route_link network i last) counted exists in
+      let ends = limits.arrival-le network formed i (UsesLink-counted network i link uses) in
       omega arith
 
   pub work_on-le : work_on network link ≤ 157900800
@@ -189,8 +183,8 @@ module _ (network : Network) (formed : IsWellFormed network) (link : ℕ) where
 
   -- the bounds of a tail
   pub record IsShortTail (tail : ℤ) : Type 0 where
-    pub low : pos 0 ≤ℤ (tail +ℤ pos 80000000)
-    pub high : tail ≤ℤ pos 80000000
+    pub low : pos 0 ≤ℤ (tail +ℤ pos 230000000)
+    pub high : tail ≤ℤ pos 230000000
 
   -- the least tail of some of the link's streams
   pub tail-bounds : (streams : List ℕ) → All (λ i. UsesLink network i link) streams → 0 < length streams
@@ -216,10 +210,10 @@ module _ (network : Network) (formed : IsWellFormed network) (link : ℕ) where
       let whole = sum_by-le (λ i. separation network i link) 1233600 streams each in
       omega arith
 
-  pub tail_on-low : 0 < length (users_of network link) → pos 0 ≤ℤ (tail_on network link +ℤ pos 80000000)
+  pub tail_on-low : 0 < length (users_of network link) → pos 0 ≤ℤ (tail_on network link +ℤ pos 230000000)
   tail_on-low some = (tail_on-bounds some).low
 
-  pub tail_on-high : 0 < length (users_of network link) → tail_on network link ≤ℤ pos 80000000
+  pub tail_on-high : 0 < length (users_of network link) → tail_on network link ≤ℤ pos 230000000
   tail_on-high some = (tail_on-bounds some).high
 
 -- the k-th shared link has several streams
@@ -277,8 +271,8 @@ pub record IsMeasured (network : Network) (table : LinkTable) : Type 0 where
   pub few : length table.users.items ≤ 128
   pub early : All (IsEarly (stream_count network)) table.users.items
   pub short_work : table.work ≤ 157900800
-  pub low_tail : pos 0 ≤ℤ (table.tail +ℤ pos 80000000)
-  pub high_tail : table.tail ≤ℤ pos 80000000
+  pub low_tail : pos 0 ≤ℤ (table.tail +ℤ pos 230000000)
+  pub high_tail : table.tail ≤ℤ pos 230000000
 
 pub table_measured : (network : Network) → IsWellFormed network → (place : ℕ) (table : LinkTable) → place < length (shared_links network)
     → link_in table ≡ shared_link network (get_or (shared_links network) place 0) → IsMeasured network table

@@ -78,8 +78,8 @@ module _ (network : Network) (path : List Decision) (link : ℕ) where
 
   -- one entry
   pub one_load : (entry : Entry) (found : LinkLoad) (sum : ℤ) (begin work end : ℕ) → sum ≡ sum_on network path entry.chain entry.frame.stream → begin ≡ begin_on network link entry.frame
-      → work ≡ separation network entry.frame.stream link → end ≡ arrival network entry.frame.stream → pos 0 ≤ℤ (sum +ℤ pos 135680000000) → sum ≤ℤ pos 136680000000
-      → begin ≤ 1080000000 → work ≤ 1233600 → end ≤ 80000000
+      → work ≡ separation network entry.frame.stream link → end ≡ arrival network entry.frame.stream → pos 0 ≤ℤ (sum +ℤ pos 154880000000) → sum ≤ℤ pos 155880000000
+      → begin ≤ 1230000000 → work ≤ 1233600 → end ≤ 230000000
       → found.head ≡ sum +ℤ pos begin → found.work ≡ work → found.tail ≡ pos end -ℤ pos (begin + work) → IsLoad network path link (entry ∷ []) found
   unfolding least head_of tail_of end_on
   one_load entry found sum begin work end adds begins works ends low high short_begin short_work short_end head is_work tail = record {

@@ -31,8 +31,8 @@ FindsChains network path chains (Err fault) = (fault ≡ ChainBroken) × (AreCha
 pub record IsSumTo (network : Network) (path : List Decision) (chain : List ℕ) (i : ℕ) (sum : ℤ) : Type 0 where
   pub leads : LeadsTo network path chain i
   pub adds : sum ≡ sum_on network path chain i
-  pub low : pos 0 ≤ℤ (sum +ℤ pos 135680000000)
-  pub high : sum ≤ℤ pos 136680000000
+  pub low : pos 0 ≤ℤ (sum +ℤ pos 154880000000)
+  pub high : sum ≤ℤ pos 155880000000
 
 -- the sum is told, or that the chain isn't one to the stream
 abbrev pub FindsSum : Network → List Decision → List ℕ → ℕ → Result ℤ NodeFault → Type 0
@@ -55,7 +55,7 @@ pub record IsLoad (network : Network) (path : List Decision) (link : ℕ) (entri
   pub low_head : pos 0 ≤ℤ (found.head +ℤ pos 200000000000)
   pub high_head : found.head ≤ℤ pos 200000000000
   pub short_work : found.work ≤ MAX_OCCUPANCY * length entries
-  pub low_tail : pos 0 ≤ℤ (found.tail +ℤ pos 1100000000)
+  pub low_tail : pos 0 ≤ℤ (found.tail +ℤ pos 1240000000)
   pub high_tail : found.tail ≤ℤ pos MAX_SPAN
 
 -- the entry is right, and what it comes to is told, or what is wrong with it

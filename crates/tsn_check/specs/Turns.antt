@@ -46,8 +46,8 @@ pub record IsWalk (network_arcs : List Arc) (chain : List ℕ) (i : ℕ) (walk :
   pub is_chain : IsChainTo network_arcs chain i
   pub begins : walk.start ≡ start_of network_arcs chain i
   pub adds : walk.sum ≡ chain_sum network_arcs chain
-  pub low : pos 0 ≤ℤ (walk.sum +ℤ pos 135680000000)
-  pub high : walk.sum ≤ℤ pos 135680000000
+  pub low : pos 0 ≤ℤ (walk.sum +ℤ pos 154880000000)
+  pub high : walk.sum ≤ℤ pos 154880000000
 
 -- the open places where the end of this path is one of them, or where none is
 abbrev pub places_at : Bool → List Decision → List (List Decision)

@@ -47,7 +47,7 @@ fn begin_of(timing: &Timing, frame: Frame, hop: usize) -> u64
     requires sent { Sends timing.now frame.stream frame.shift }
     requires hop { hop < hop_count timing.now frame.stream }
     ensures value { result ≡ frame.shift + start timing.now frame.stream hop }
-    ensures bound { result ≤ 1_080_000_000 }
+    ensures bound { result ≤ 1_230_000_000 }
 {
     // The limits of the network bound the shift.
     let _limits = timing.cycle();

@@ -90,7 +90,7 @@ pub record Reads (network : Network) (uses : List (List Use)) (i link : ℕ) : T
   pub row_kept : i < length uses
   pub link_kept : link < length (get_or uses i [])
   pub value : use_in uses i link ≡ record { start = start_on network i link; separation = separation network i link }
-  pub early : start_on network i link ≤ 51584000
+  pub early : start_on network i link ≤ 206336000
   pub short : separation network i link ≤ 1233600
 
 pub Reads-used : (network : Network) (uses : List (List Use)) (i link : ℕ) → IsWellFormed network → uses ≡ uses_of network → UsesLink network i link → Reads network uses i link
@@ -102,10 +102,10 @@ Reads-used network uses i link formed same used =
     let hop = start_hop in
     grind (arith, row_kept, link_kept, use_in-uses_of, use_at-used, separation-le)
   where
-    start_hop : start_on network i link ≤ 51584000
+    start_hop : start_on network i link ≤ 206336000
     start_hop = start_by (hop_on network i link) refl
       where
-        start_by : (hop : Option ℕ) → hop_on network i link ≡ hop → start_on network i link ≤ 51584000
+        start_by : (hop : Option ℕ) → hop_on network i link ≡ hop → start_on network i link ≤ 206336000
         start_by None off = let none : false ≡ true = ap is_some (sym off) ∙ used in cc
         start_by (Some hop) on =
             let early = start-le network formed i hop (UsesLink-counted network i link used) in

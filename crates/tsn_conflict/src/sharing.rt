@@ -63,8 +63,8 @@ impl Conflicts {
         ensures value { (network : Network) → AreConflictsOf network self.now → result ≡ arc_on network triple side }
         ensures from { result.from < length self.now.uses }
         ensures to { result.to < length self.now.uses }
-        ensures least { neg_ℤ (pos 1_060_000_000) ≤ℤ result.weight }
-        ensures most { result.weight ≤ℤ pos 1_060_000_000 }
+        ensures least { neg_ℤ (pos 1_210_000_000) ≤ℤ result.weight }
+        ensures most { result.weight ≤ℤ pos 1_210_000_000 }
     {
         // The limits of the network bound the lag.
         let _ = &self.timing;
@@ -130,8 +130,8 @@ impl Conflicts {
         ensures value { (network : Network) → AreConflictsOf network self.now → result ≡ arc_between network first second link lag }
         ensures from { result.from < length self.now.uses }
         ensures to { result.to < length self.now.uses }
-        ensures least { neg_ℤ (pos 1_060_000_000) ≤ℤ result.weight }
-        ensures most { result.weight ≤ℤ pos 1_060_000_000 }
+        ensures least { neg_ℤ (pos 1_210_000_000) ≤ℤ result.weight }
+        ensures most { result.weight ≤ℤ pos 1_210_000_000 }
     {
         let before = self.use_on(first, link);
         let after = self.use_on(second, link);

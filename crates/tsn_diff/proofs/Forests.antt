@@ -22,22 +22,22 @@ pub HasSteps-from_forest : {arcs : List Arc} {labels : Labelling} → IsForest a
 HasSteps-from_forest {arcs} {labels} f = record { count = f.count; from_in = λ i s h. omega (arith, f.count, (f.steps i s h).from_in) }
 
 -- no offset is above the greatest release and what n - 1 arcs add
-pub offset_small : {arcs : List Arc} {labels : Labelling} → IsForest arcs labels → All (IsArcAmong (length labels.offsets)) arcs → (i : ℕ) → i < length labels.offsets → slice_index labels.offsets i ≤ 135620000000
+pub offset_small : {arcs : List Arc} {labels : Labelling} → IsForest arcs labels → All (IsArcAmong (length labels.offsets)) arcs → (i : ℕ) → i < length labels.offsets → slice_index labels.offsets i ≤ 154670000000
 offset_small {arcs} {labels} f among i l =
     let r = f.rooted i in
     let few : length r.steps < length labels.offsets = length-path (length labels.offsets) (λ j s h. (f.steps j s h).from_in) r.path r.ends l in
     let above = explained arcs labels.offsets labels.last f.steps r.path in
     let heavy = chain_sum-le arcs (length labels.offsets) (indexes_of r.steps) among (indexes_in arcs labels.offsets labels.last f.steps r.path) in
-    let heavy' : chain_sum arcs (indexes_of r.steps) ≤ℤ pos (1060000000 * length r.steps) = rw length-indexes_of at heavy in
+    let heavy' : chain_sum arcs (indexes_of r.steps) ≤ℤ pos (1210000000 * length r.steps) = rw length-indexes_of at heavy in
     let early = f.early r.root r.ends in
     let short = f.few in
     omega (arith, ints, few, above, heavy', early, short)
 
-pub all_small : {arcs : List Arc} {labels : Labelling} → IsForest arcs labels → All (IsArcAmong (length labels.offsets)) arcs → All (λ offset. offset ≤ 135620000000) labels.offsets
+pub all_small : {arcs : List Arc} {labels : Labelling} → IsForest arcs labels → All (IsArcAmong (length labels.offsets)) arcs → All (λ offset. offset ≤ 154670000000) labels.offsets
 all_small {arcs} {labels} f among = λ k d l. rw (get_or_default labels.offsets k d 0 l) (offset_small f among k l)
 
-pub offsets_small : {arcs : List Arc} {labels : Labelling} → IsForest arcs labels → All (IsArcAmong (length labels.offsets)) arcs → sum labels.offsets ≤ length labels.offsets * 135620000000
-offsets_small {arcs} {labels} f among = sum_by-le (λ x. x) 135620000000 labels.offsets (all_small f among)
+pub offsets_small : {arcs : List Arc} {labels : Labelling} → IsForest arcs labels → All (IsArcAmong (length labels.offsets)) arcs → sum labels.offsets ≤ length labels.offsets * 154670000000
+offsets_small {arcs} {labels} f among = sum_by-le (λ x. x) 154670000000 labels.offsets (all_small f among)
 
 -- the test on the way back fails at its first stream too
 pub unlike_from_passes : (last : List (Option Step)) (n v i : ℕ) → 0 < n → passes_within n last v i ≡ false → i ≢ v

@@ -24,7 +24,7 @@ start_of-leads arcs start [] end l = sym l
 start_of-leads arcs start (p ∷ ps) end l = l.0
 
 -- no chain weighs more than its length times the greatest weight
-pub chain_sum-le : (arcs : List Arc) (n : ℕ) (chain : List ℕ) → All (IsArcAmong n) arcs → All (λ index. index < length arcs) chain → chain_sum arcs chain ≤ℤ pos (1060000000 * length chain)
+pub chain_sum-le : (arcs : List Arc) (n : ℕ) (chain : List ℕ) → All (IsArcAmong n) arcs → All (λ index. index < length arcs) chain → chain_sum arcs chain ≤ℤ pos (1210000000 * length chain)
 chain_sum-le arcs n [] among indexes = omega (arith, ints)
 chain_sum-le arcs n (p ∷ ps) among indexes =
     let rest = chain_sum-le arcs n ps among (All-tail (λ index. index < length arcs) p ps indexes) in

@@ -169,7 +169,7 @@ module _ (base : Base) (labels : Labelling) (stages : List Stage) (wave : Wave) 
         let among = queued i (sym (stands_other i (λ e. unlike (sym e))) ∙ waits) in
         contains_rest stream i (drop (turn + 1) wave.queue.items) unlike (subst (λ (xs : List ℕ). Contains xs i) (drop_more wave.queue.items turn stream turn_in ∙ ap (λ (s : ℕ). s ∷ drop (turn + 1) wave.queue.items) (sym is)) among))
 
-    pub turn_smaller : length new.offsets ≡ length labels.offsets → sum new.offsets ≤ length new.offsets * 135620000000 → (length new.offsets * 135620000000 - sum new.offsets) + (length queue - (turn + 1)) < (length labels.offsets * 135620000000 - sum labels.offsets) + (length wave.queue.items - turn)
+    pub turn_smaller : length new.offsets ≡ length labels.offsets → sum new.offsets ≤ length new.offsets * 154670000000 → (length new.offsets * 154670000000 - sum new.offsets) + (length queue - (turn + 1)) < (length labels.offsets * 154670000000 - sum labels.offsets) + (length wave.queue.items - turn)
     turn_smaller same small = omega (arith, g.raises, g.more, same, small, turn_in)
 
 -- where no stream waits any more, every arc is met

@@ -74,7 +74,7 @@ impl Labels {
     /// The offset to which an arc asks to raise its last stream, or none where the arc is met.
     pub fn asked(&self, arc: Arc) -> Option<u64>
         requires arc { IsArcAmong (length self.now.offsets.items) arc }
-        requires small { All (λ offset. offset ≤ 135620000000) self.now.offsets.items }
+        requires small { All (λ offset. offset ≤ 154670000000) self.now.offsets.items }
         ensures { MatchOption result (Holds self.now.offsets.items arc)
             (IsAsked self.now.offsets.items arc) }
     {

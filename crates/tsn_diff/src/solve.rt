@@ -15,7 +15,7 @@ use std::marker::Model;
 use tsn_model::{Arc, NoMemory};
 
 /// The greatest weight of an arc, in either direction, in nanoseconds.
-pub const MAX_WEIGHT: i64 = 1_060_000_000;
+pub const MAX_WEIGHT: i64 = 1_210_000_000;
 
 /// The greatest release of a stream, in nanoseconds.
 pub const MAX_RELEASE: u64 = 1_000_000_000;

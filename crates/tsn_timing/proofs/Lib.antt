@@ -4,4 +4,5 @@ pub mod Neighbouring
 pub mod Overlapping
 pub mod Sending
 pub mod Tabling
+pub mod Hopping
 mod DecidedArcs

@@ -198,12 +198,12 @@ impl Timing {
         self.network.latest(stream)
     }
 
-    /// How many hops a stream's route has, 1 to 16.
+    /// How many hops a stream's route has, 1 to 64.
     pub fn hops(&self, stream: usize) -> usize
         requires { stream < stream_count self.now }
         ensures value { result ≡ hop_count self.now stream }
         ensures some { 1 ≤ result }
-        ensures few { result ≤ 16 }
+        ensures few { result ≤ 64 }
     {
         self.network.hops(stream)
     }
@@ -251,7 +251,7 @@ impl Timing {
         self.tables[stream].hops[hop].start
     }
 
-    /// When the last octet of a stream's period is at the receiver, counted from the stream's offset, in nanoseconds, at most
+    /// When the last octet of a stream's period is at each listener, counted from the stream's offset, in nanoseconds, at most
     /// `MAX_SPAN`.
     pub fn arrival(&self, stream: usize) -> u64
         requires { stream < stream_count self.now }

@@ -193,6 +193,6 @@ fn ring(alloc: Global) -> Result<Vec<Arc>, AllocError> {
 #[test]
 fn a_ring_of_all_streams_closes(rt: HostRuntime) -> Result<(), Fail> {
     let arcs = ring(rt.alloc())?;
-    let wanted = "closed by 128 of sum 133560000000";
+    let wanted = "closed by 128 of sum 152460000000";
     expect_found(&rt, &Net::new(MAX_STREAMS), &arcs, wanted)
 }

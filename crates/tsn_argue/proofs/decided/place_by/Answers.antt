@@ -8,7 +8,7 @@ record Bounds (c : goal.In-Some) : Type 0 where
   first : c.args.first < stream_count c.args.timing.now
   second : c.args.second < stream_count c.args.timing.now
   streams : stream_count c.args.timing.now ≤ 128
-  hop : c.in-Some.hop < 16
+  hop : c.in-Some.hop < 64
 
 bounds : (c : goal.In-Some) → Bounds c
 bounds c = record {

@@ -5,5 +5,5 @@ use Rattle.tsn_branch.proofs.loads.head.Given as goal
 abbrev pub invariant-loop-index : goal.invariant-loop-index
 invariant-loop-index l = record {
   least_so_far : pos l.least ≡ head_in l.offsets (take l.index l.users);
-  early : l.least ≤ 1051584000;
+  early : l.least ≤ 1206336000;
 }

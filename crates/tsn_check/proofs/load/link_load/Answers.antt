@@ -11,7 +11,7 @@ use Rattle.tsn_check.proofs.load.link_load.Goals as goal
 kept : (z : ℤ) → pos 0 ≤ℤ (z +ℤ pos 200000000000) → z ≤ℤ pos 200000000000 → to_z w64 (of_z w64 z) ≡ z
 kept z low high = to_z-of_z w64 z (omega (arith, ints))
 
-kept_tail : (z : ℤ) → pos 0 ≤ℤ (z +ℤ pos 1100000000) → z ≤ℤ pos 80000000 → to_z w64 (of_z w64 z) ≡ z
+kept_tail : (z : ℤ) → pos 0 ≤ℤ (z +ℤ pos 1240000000) → z ≤ℤ pos 230000000 → to_z w64 (of_z w64 z) ≡ z
 kept_tail z low high = to_z-of_z w64 z (omega (arith, ints))
 
 pub returns-in_err-next : goal.returns-in_err-next

@@ -22,10 +22,10 @@ pub loop-net-smaller : goal.loop-net-smaller
 loop-net-smaller c =
     let count = c.in-Raised.ensures.count ∙ c.loop-net.invariant.raised.count in
     let among = subst (λ (n : ℕ). All (IsArcAmong n) c.args.arcs.items) (sym count) c.requires.among in
-    let small : sum c.round.new.self.offsets.items ≤ length c.round.new.self.offsets.items * 135620000000 = offsets_small (rw c.deref.ensures.value at c.in-Raised.ensures.forest) among in
+    let small : sum c.round.new.self.offsets.items ≤ length c.round.new.self.offsets.items * 154670000000 = offsets_small (rw c.deref.ensures.value at c.in-Raised.ensures.forest) among in
     let more : sum c.loop-net.labels.offsets.items < sum c.round.new.self.offsets.items = c.in-Raised.ensures.progress in
     let same : length c.round.new.self.offsets.items ≡ length c.loop-net.labels.offsets.items = c.in-Raised.ensures.count in
-    let falls : length c.round.new.self.offsets.items * 135620000000 - sum c.round.new.self.offsets.items < length c.loop-net.labels.offsets.items * 135620000000 - sum c.loop-net.labels.offsets.items = omega (arith, small, more, same) in
+    let falls : length c.round.new.self.offsets.items * 154670000000 - sum c.round.new.self.offsets.items < length c.loop-net.labels.offsets.items * 154670000000 - sum c.loop-net.labels.offsets.items = omega (arith, small, more, same) in
     falls
 
 pub cycle-requires-clause-steps : goal.cycle-requires-clause-steps

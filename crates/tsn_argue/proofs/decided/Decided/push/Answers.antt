@@ -10,7 +10,7 @@ pub invariant_of-self-then-is_new : goal.invariant_of-self-then-is_new
 invariant_of-self-then-is_new c =
     let long = length-append c.self.inside.list.items (c.args.decision ∷ []) in
     let none = subst (λ (o : Orders). Contains o.view c.args.decision → ⊥) (sym c.self.view_is) c.if-is_new.ensures.1 in
-    let inside = subst (λ p. p < stream_count c.self.inside.timing.now * 2048) c.place_of-place.ensures.place c.place_of-place.ensures.inside in
+    let inside = subst (λ p. p < stream_count c.self.inside.timing.now * 8192) c.place_of-place.ensures.place c.place_of-place.ensures.inside in
     let count : c.len-count.result ≡ length c.self.inside.list.items = omega (arith, c.len-count.ensures, c.self.inside.list.ok) in
     rw (c.in_default.ensures.items, c.place_of-place.ensures.place, count) (
       omega (arith, long),

@@ -20,4 +20,4 @@ invariant-loop-turn g l =
 
 -- how far the offsets are from the greatest that they can be, and the streams that wait
 abbrev pub decreases-loop-turn : goal.decreases-loop-turn
-decreases-loop-turn g l = (length l.labels.offsets.items * 135620000000 - sum l.labels.offsets.items) + (length l.self.queue.items - l.turn)
+decreases-loop-turn g l = (length l.labels.offsets.items * 154670000000 - sum l.labels.offsets.items) + (length l.self.queue.items - l.turn)

@@ -8,6 +8,6 @@ use Rattle.tsn_timing.proofs.timing.Timing.flowspan.Given as goal
 abbrev pub invariant-loop-stream : goal.invariant-loop-stream
 invariant-loop-stream l = record {
   so_far : l.last ≡ greatest (map (λ i. offset_of l.offsets i + arrival l.self i) (range_with_len 0 l.stream));
-  bound : l.last ≤ l.self.cycle + 80000000;
+  bound : l.last ≤ l.self.cycle + 230000000;
   end : l.stream-end ≡ stream_count l.self;
 }
