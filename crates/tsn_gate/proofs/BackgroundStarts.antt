@@ -57,7 +57,7 @@ module _ (network : Network) (plan : Plan) (gates : List LinkGates) (cycles : �
         (λ q q_due passage same is_ready since none. blocked_more network plan plan.turn gates cycles run new now background_extends
         (λ p due ready. refl) q q_due now is_ready (omega arith)
         (due.quiet.blocked q q_due passage same is_ready since none))
-        (λ q q_due is_ready. inl is_ready) elsewhere added.busy added.begin;
+        (λ q q_due passage is_ready. inl is_ready) elsewhere added.busy added.begin;
   }
 
   pub background_greedy : octets ≡ 1522 → IsGreedySoFar network gates cycles free now run → IsGreedySoFar network gates cycles after now new

@@ -1,5 +1,5 @@
 -- How many frames the streams send in a cycle, and where each of them stands.
-use Rattle.std.proofs.Common.{◌≡◌, ℕ, zero, suc, ◌+◌, ◌-◌, ◌*◌, ◌≤◌, ◌<◌, ◌==◌, List, [], ◌∷◌, ◌++◌, map, take, sum_by, length, get_or, AllPairs, true, false, ltb, ltb-true, refl, sym, ap, ◌∙◌, subst, arith, inl, inr, suc-mul, mul-le-mul, eqb-true, eq-eqb}
+use Rattle.std.proofs.Common.{◌≡◌, ℕ, zero, suc, ◌+◌, ◌-◌, ◌*◌, ◌≤◌, ◌<◌, ◌==◌, List, [], ◌∷◌, ◌++◌, map, take, sum_by, length, get_or, AllPairs, true, false, ltb, ltb-true, refl, sym, ap, ◌∙◌, subst, arith, inl, inr, suc-mul, mul-le-mul, mul-add, eqb-true, eq-eqb}
 use Rattle.std.specs.List.{flat_map, range_with_len}
 use Rattle.std.specs.List.Sorted.{IsPartitionedBy, IsPartitionPoint}
 use Rattle.std.proofs.lemmas.Bool.{cases_lt, cases_order, ne_eqb, ltb-false, lt-ltb, false≢true}
@@ -8,14 +8,16 @@ use Rattle.std.proofs.lemmas.List.FromFn.{length-range_with_len}
 use Rattle.std.proofs.Math.ListN.{get_or-append}
 use Rattle.std.proofs.Math.Seq.{get_or-append_seam}
 use Rattle.std.proofs.lemmas.List.Sums.{sum_by_push, sum_by_more, sum_by-take-le, position_or_len_is, passes_at_first, fails_before_first}
-use Rattle.tsn_model.specs.Network.{Network, Stream, IsWellFormed, stream_count, no_stream, stream_at, period_of, turns_of, burst_of, frame_count}
+use Rattle.tsn_model.specs.Network.{Network, Stream, IsWellFormed, stream_count, no_stream, stream_at, period_of, turns_of, burst_of, hop_count, frame_count}
 use Rattle.tsn_model.specs.Timing.{pace, shifts, Sends}
 use Rattle.tsn_model.proofs.Lists.{range_more}
+use Rattle.tsn_model.proofs.Limits.{hops-le}
 use Rattle.tsn_model.proofs.Hops.{cycle_below}
-use Rattle.tsn_gate.specs.Frames.{frames_below, place_of, frames_of, index_of, AreFirsts}
+use Rattle.tsn_gate.specs.Frames.{frames_below, visits_below, place_of, first_visit, frames_of, index_of, AreFirsts}
 
 -- pieces of one length
-pub length_pieces : {X Y : Type 0} (f : X → List Y) (size : ℕ) → ((x : X) → length (f x) ≡ size) → (xs : List X) → length (flat_map f xs) ≡ length xs * size
+pub length_pieces : {X Y : Type 0} (f : X → List Y) (size : ℕ) → ((x : X) → length (f x) ≡ size) → (xs : List X)
+    → length (flat_map f xs) ≡ length xs * size
 length_pieces f size same [] = omega arith
 length_pieces f size same (x ∷ xs) =
     let rest = length_pieces f size same xs in
@@ -33,7 +35,8 @@ module _ (network : Network) where
   below-zero = refl
 
   below_after : (i more : ℕ) → frames_below network i ≤ frames_below network (i + more)
-  below_after i zero = let same : frames_below network i ≡ frames_below network (i + 0) = ap (frames_below network) (omega arith) in omega arith
+  below_after i zero = let same : frames_below network i ≡ frames_below network (i + 0) =
+      ap (frames_below network) (omega arith) in omega arith
   below_after i (suc more) =
       let before = below_after i more in
       let next = below-more (i + more) in
@@ -46,14 +49,84 @@ module _ (network : Network) where
       let same : frames_below network (i + (j - i)) ≡ frames_below network j = ap (frames_below network) (omega arith) in
       omega arith
 
-  -- so many frames of each of the streams make blocks that come one after another
-  pub blocks-le : (cycles i j : ℕ) → i ≤ j → frames_below network i * cycles ≤ frames_below network j * cycles
-  blocks-le cycles i j order = grind (arith, mul-le-mul, below-le)
+  -- ---- the same by hops
+
+  pub visits-more : (i : ℕ) → visits_below network (i + 1) ≡ visits_below network i + hop_count network i * length (shifts network i)
+  unfolding visits_below
+  visits-more i = grind (arith, range_more, sum_by_push)
+
+  pub visits-zero : visits_below network 0 ≡ 0
+  unfolding visits_below
+  visits-zero = refl
+
+  visits_after : (i more : ℕ) → visits_below network i ≤ visits_below network (i + more)
+  visits_after i zero = let same : visits_below network i ≡ visits_below network (i + 0) =
+      ap (visits_below network) (omega arith) in omega arith
+  visits_after i (suc more) =
+      let before = visits_after i more in
+      let next = visits-more (i + more) in
+      let same : visits_below network (i + more + 1) ≡ visits_below network (i + suc more) = ap (visits_below network) (omega arith) in
+      omega arith
+
+  pub visits-le : (i j : ℕ) → i ≤ j → visits_below network i ≤ visits_below network j
+  visits-le i j order =
+      let after = visits_after i (j - i) in
+      let same : visits_below network (i + (j - i)) ≡ visits_below network j = ap (visits_below network) (omega arith) in
+      omega arith
+
+  -- the blocks of a stream's hops come one after another, before those of the next stream
+  pub hops-le-hops : (i k l : ℕ) → k ≤ l → first_visit network i k ≤ first_visit network i l
+  hops-le-hops i k l order =
+      let product : k * length (shifts network i) ≤ l * length (shifts network i) = mul-le-mul order (omega arith) in
+      omega arith
+
+  pub hops-le-next : (i k : ℕ) → k ≤ hop_count network i → first_visit network i k ≤ visits_below network (i + 1)
+  hops-le-next i k order =
+      let next = visits-more i in
+      let product : k * length (shifts network i) ≤ hop_count network i * length (shifts network i) = mul-le-mul order (omega arith) in
+      omega arith
+
+  pub first-le : (i j k l : ℕ) → i < j → k ≤ hop_count network i → first_visit network i k ≤ first_visit network j l
+  first-le i j k l order inside =
+      let next = hops-le-next i k inside in
+      let more = visits-le (i + 1) j (omega arith) in
+      omega arith
+
+  pub times-le : (cycles a b : ℕ) → a ≤ b → a * cycles ≤ b * cycles
+  times-le cycles a b order = mul-le-mul order (omega arith)
 
   -- a number is in one block alone
-  pub one_block : (cycles i j number : ℕ) → frames_below network i * cycles ≤ number → number < frames_below network (i + 1) * cycles
-      → frames_below network j * cycles ≤ number → number < frames_below network (j + 1) * cycles → i ≡ j
-  one_block cycles i j number from_i upto_i from_j upto_j = grind (arith, cases_order, blocks-le)
+  pub one_visit : (cycles i j k l number : ℕ) → k < hop_count network i → l < hop_count network j
+      → first_visit network i k * cycles ≤ number → number < first_visit network i (k + 1) * cycles
+      → first_visit network j l * cycles ≤ number → number < first_visit network j (l + 1) * cycles → (i ≡ j) × (k ≡ l)
+  one_visit cycles i j k l number k_below l_below from_i upto_i from_j upto_j =
+      let stream : i ≡ j = elim (cases_order i j) [
+        | inl same ↦ same
+        | inr differ ↦ elim differ [
+          | inl less ↦ let past =
+              times-le cycles (first_visit network i (k + 1)) (first_visit network j l) (first-le i j (k + 1) l less (omega arith)) in
+              absurd (omega arith)
+          | inr more ↦ let past =
+              times-le cycles (first_visit network j (l + 1)) (first_visit network i k) (first-le j i (l + 1) k more (omega arith)) in
+              absurd (omega arith)
+        ]
+      ] in
+      let begun : first_visit network i l * cycles ≤ number = subst (λ s. first_visit network s l * cycles ≤ number) (sym stream) from_j in
+      let ended : number < first_visit network i (l + 1) * cycles =
+      subst (λ s. number < first_visit network s (l + 1) * cycles) (sym stream) upto_j in (
+        stream,
+        elim (cases_order k l) [
+          | inl same ↦ same
+          | inr differ ↦ elim differ [
+            | inl less ↦ let past =
+                times-le cycles (first_visit network i (k + 1)) (first_visit network i l) (hops-le-hops i (k + 1) l (omega arith)) in
+                absurd (omega arith)
+            | inr more ↦ let past =
+                times-le cycles (first_visit network i (l + 1)) (first_visit network i k) (hops-le-hops i (l + 1) k (omega arith)) in
+                absurd (omega arith)
+          ]
+        ],
+      )
 
   -- ---- how many there are
 
@@ -64,7 +137,8 @@ module _ (network : Network) where
       let of_turn : ℕ → List ℕ = λ turn. map (λ place. turn * period_of network i + place * pace network i) places in
       let size = length-range_with_len 0 (burst_of network i) in
       let turns = length-range_with_len 0 (turns_of network i) in
-      length_pieces of_turn (burst_of network i) (λ turn. length-map places (λ place. turn * period_of network i + place * pace network i) ∙ size)
+      length_pieces of_turn (burst_of network i)
+      (λ turn. length-map places (λ place. turn * period_of network i + place * pace network i) ∙ size)
       (range_with_len 0 (turns_of network i))
       ∙ ap (λ n. n * burst_of network i) turns
 
@@ -90,6 +164,44 @@ module _ (network : Network) where
   pub shifts-few : IsWellFormed network → (i : ℕ) → i < stream_count network → frames_below network (i + 1) ≤ 1024
   shifts-few formed i counted = grind (arith, frames_few, below-le)
 
+  visits-few-below : (bound : ℕ) → ((j : ℕ) → j < stream_count network → hop_count network j ≤ bound) → (i : ℕ) → i ≤ stream_count network
+      → visits_below network i ≤ bound * frames_below network i
+  visits-few-below bound few zero order =
+      let none = visits-zero in
+      let zero_frames = below-zero in
+      omega arith
+  visits-few-below bound few (suc i) order =
+      let one : i + 1 ≡ suc i = omega arith in
+      let before = visits-few-below bound few i (omega arith) in
+      let next = visits-more i in
+      let below = below-more i in
+      let product : hop_count network i * length (shifts network i) ≤ bound * length (shifts network i) =
+      mul-le-mul (few i order) (omega arith) in
+      let sum : bound * frames_below network (i + 1) ≡ bound * frames_below network i + bound * length (shifts network i) =
+      ap (λ n. bound * n) below ∙ mul-add bound (frames_below network i) (length (shifts network i)) in
+      subst (λ n. visits_below network n ≤ bound * frames_below network n) one (omega arith)
+
+  pub visits-few : IsWellFormed network → (i : ℕ) → i ≤ stream_count network → visits_below network i ≤ 65536
+  visits-few formed i order =
+      let below = visits-few-below 64 (hops-le network formed) i order in
+      let frames = below-le i (stream_count network) order in
+      let few = frames_few formed in
+      omega arith
+
+  pub visits-fit : IsWellFormed network → (i : ℕ) → i < stream_count network
+      → visits_below network i + hop_count network i * length (shifts network i) ≤ 65536
+  visits-fit formed i counted =
+      let more = visits-more i in
+      let few = visits-few formed (i + 1) (omega arith) in
+      omega arith
+
+  pub visits-fit-hop : IsWellFormed network → (i hop : ℕ) → i < stream_count network → hop ≤ hop_count network i
+      → visits_below network i + hop * length (shifts network i) ≤ 65536
+  visits-fit-hop formed i hop counted inside =
+      let whole = visits-fit formed i counted in
+      let product : hop * length (shifts network i) ≤ hop_count network i * length (shifts network i) = mul-le-mul inside (omega arith) in
+      omega arith
+
   -- ---- where they stand
 
   pub place-below : (i shift : ℕ) → Sends network i shift → place_of network i shift < length (shifts network i)
@@ -102,12 +214,14 @@ module _ (network : Network) where
 
   -- the first place whose shift isn't less
   pub place_found : (i shift point : ℕ) → AllPairs ◌<◌ (shifts network i) → Sends network i shift
-      → ((k : ℕ) → k < point → get_or (shifts network i) k 0 < shift) → (point < length (shifts network i) → shift ≤ get_or (shifts network i) point 0)
+      → ((k : ℕ) → k < point → get_or (shifts network i) k 0 < shift)
+      → (point < length (shifts network i) → shift ≤ get_or (shifts network i) point 0)
       → (point ≡ place_of network i shift) × (point < length (shifts network i))
   unfolding place_of
   place_found i shift point ascend (j, inside, is) before stops =
       let at : get_or (shifts network i) j 0 ≡ shift = get_or_default (shifts network i) j 0 shift inside ∙ is in
-      let not_past : point ≤ j = elim (cases_lt j point) [ inl less ↦ let low = before j less in absurd (omega arith) | inr not_less ↦ not_less ] in
+      let not_past : point ≤ j =
+      elim (cases_lt j point) [ inl less ↦ let low = before j less in absurd (omega arith) | inr not_less ↦ not_less ] in
       let within : point < length (shifts network i) = omega arith in
       let from = stops within in
       let same : get_or (shifts network i) point 0 ≡ shift = grind arith in (
@@ -125,7 +239,8 @@ module _ (network : Network) where
       let order = below-le (i + 1) (stream_count network) (omega arith) in
       omega arith
 
-  pub one_index : (i shift j other : ℕ) → Sends network i shift → Sends network j other → index_of network i shift ≡ index_of network j other
+  pub one_index : (i shift j other : ℕ) → Sends network i shift → Sends network j other
+      → index_of network i shift ≡ index_of network j other
       → (i ≡ j) × (shift ≡ other)
   one_index i shift j other sent other_sent same =
       let place = place-below i shift sent in
@@ -166,7 +281,8 @@ module _ (network : Network) where
         last = omega arith;
       }
 
-  pub firsts_all : (n : ℕ) (firsts : List ℕ) (first : ℕ) → n ≡ stream_count network → AreFirstsUpto n firsts first → AreFirsts network firsts
+  pub firsts_all : (n : ℕ) (firsts : List ℕ) (first : ℕ) → n ≡ stream_count network → AreFirstsUpto n firsts first
+      → AreFirsts network firsts
   firsts_all n firsts first whole are = record { count = let count = are.count in omega arith; each = λ i within. are.each i (omega arith) }
 
   -- and few of them
@@ -199,4 +315,5 @@ module _ (network : Network) where
       → i < stream_count network
       → Sends network i shift → place ≡ place_of network i shift → streams ≡ stream_count network
       → CellNumbers cycle (get_or firsts i 0) place (get_or firsts streams 0)
-  cell_numbers formed firsts are cycle i shift place streams early counted sent place_is streams_is = grind (arith, index-below, frames_few, mul-le-mul, cycle_below)
+  cell_numbers formed firsts are cycle i shift place streams early counted sent place_is streams_is =
+      grind (arith, index-below, frames_few, mul-le-mul, cycle_below)

@@ -1,32 +1,45 @@
--- Before any start the frames get their turns one after another.
+-- Before any start the items get their turns one after another.
 use Rattle.std.proofs.Common.{◌≡◌, ℕ, ◌+◌, ◌-◌, ◌*◌, ◌≤◌, ◌<◌, List, length, slice_set, refl, sym, ap, ◌∙◌, subst, arith, inl, inr}
 use Rattle.std.proofs.lemmas.Bool.{cases_eq}
 use Rattle.std.proofs.lemmas.List.{length-set}
 use Rattle.tsn_model.specs.Network.{Network, hop_count}
+use Rattle.tsn_model.specs.Timing.{shifts}
 use Rattle.tsn_model.specs.Schedule.{offset_of}
 use Rattle.tsn_model.specs.Bridge.{Passage, IsPassage, IsReady}
 use Rattle.tsn_model.proofs.Hops.{passage_cases}
 use Rattle.tsn_model.proofs.Lists.{Contains-nil}
 use Rattle.tsn_gate.specs.declared.queue.Frame.{Frame}
-use Rattle.tsn_gate.specs.Queue.{AreInLine, frame_in, passage_of}
-use Rattle.tsn_gate.specs.Frames.{frames_below}
+use Rattle.tsn_gate.specs.declared.queue.Stage.TheVariants.{Queued}
+use Rattle.tsn_gate.specs.Queue.{AreInLine, IsOneVisit, first_stage, frame_in, passage_of}
+use Rattle.tsn_gate.specs.Frames.{first_visit}
 use Rattle.tsn_gate.specs.Feeding.{no_start}
 use Rattle.tsn_gate.specs.Progress.{Turn, Plan, IsTurn, IsFrame, IsTracked, HasTurn, AreFirst, AreBegun, with_turn, turn_of}
 use Rattle.tsn_gate.proofs.Advances.{frame_set_same, frame_set_other}
-use Rattle.tsn_gate.proofs.InLine.{between}
-use Rattle.tsn_gate.proofs.PassageStarts.{turned, turned_same, turned_other}
+use Rattle.tsn_gate.proofs.Blocks.{between}
+use Rattle.tsn_gate.proofs.Moved.{same_visit}
+use Rattle.tsn_gate.proofs.PassageStarts.{pick, pick_yes, pick_no}
 
--- what is read of the frames, and computed from it
-pub first_sooner : (network : Network) (cycles : ℕ) (read frames : List Frame) → read ≡ frames → AreInLine network cycles frames → (number : ℕ)
-    → number < length frames → (frame : Frame) → frame ≡ frame_in frames number
-    → frame.hop < hop_count network frame.stream → (before : ℕ) → number ≡ before + 1 → (frame_in read before).stream ≡ frame.stream
-    → (frame_in read before).hop ≡ frame.hop → (frame_in read before).ready < frame.ready
-first_sooner network cycles read frames read_is line number below frame frame_is =
-    subst (λ fs. frame.hop < hop_count network frame.stream → (before : ℕ) → number ≡ before + 1 → (frame_in fs before).stream ≡ frame.stream
-    → (frame_in fs before).hop ≡ frame.hop → (frame_in fs before).ready < frame.ready) (sym read_is)
-    (subst (λ (f : Frame). f.hop < hop_count network f.stream → (before : ℕ) → number ≡ before + 1 → (frame_in frames before).stream ≡ f.stream
-    → (frame_in frames before).hop ≡ f.hop → (frame_in frames before).ready < f.ready) (sym frame_is)
-    (λ waits before next stream hop. line.readies before number (omega arith) below stream hop waits))
+-- items of one hop are at first where each of them is
+pub one_stage : (network : Network) (offsets : List ℕ) (number : ℕ) (frames : List Frame) → AreFirst network offsets number frames
+    → (a b : ℕ) → a < length frames → b < length frames
+    → IsOneVisit (frame_in frames a) (frame_in frames b) → (frame_in frames a).stage ≡ (frame_in frames b).stage
+one_stage network offsets number frames first a b a_below b_below one =
+    first.stages a a_below ∙ ((λ i. first_stage network (one.0 i) (one.1 i)) ∙ sym (first.stages b b_below))
+
+-- what is read of the items, and computed from it
+pub first_sooner : (network : Network) (offsets : List ℕ) (cycles : ℕ) (read frames : List Frame) → read ≡ frames
+    → AreInLine network cycles frames → (number : ℕ) → AreFirst network offsets number frames → number < length frames
+    → (frame : Frame) → frame ≡ frame_in frames number
+    → (before : ℕ) → number ≡ before + 1 → IsOneVisit (frame_in read before) frame → (frame_in read before).stage ≡ Queued
+    → (frame_in read before).ready < frame.ready
+first_sooner network offsets cycles read frames read_is line number first below frame frame_is =
+    subst (λ fs. (before : ℕ) → number ≡ before + 1 → IsOneVisit (frame_in fs before) frame
+    → (frame_in fs before).stage ≡ Queued → (frame_in fs before).ready < frame.ready) (sym read_is)
+    (subst (λ (f : Frame). (before : ℕ) → number ≡ before + 1 → IsOneVisit (frame_in frames before) f
+    → (frame_in frames before).stage ≡ Queued → (frame_in frames before).ready < f.ready) (sym frame_is)
+    (λ before next one queued.
+    line.readies before number (omega arith) below one queued
+    (sym (one_stage network offsets number frames first before number (omega arith) below one) ∙ queued)))
 
 pub first_has : (network : Network) (given slack number : ℕ) (read frames : List Frame) (frame new : Frame) → given ≡ slack → read ≡ frames
     → frame ≡ frame_in frames number
@@ -34,6 +47,18 @@ pub first_has : (network : Network) (given slack number : ℕ) (read frames : Li
 first_has network given slack number read frames frame new slack_is read_is frame_is has =
     subst (λ f. HasTurn network slack frames number f 0 new) frame_is (subst (λ fs. HasTurn network slack fs number frame 0 new) read_is
     (subst (λ n. HasTurn network n read number frame 0 new) slack_is has))
+
+-- the turns with one of a passage
+one_turn : (Passage → Turn) → Passage → Turn → Passage → Turn
+one_turn turn p new q = pick (passage_cases p q) new (turn q)
+
+turn_same : (turn : Passage → Turn) (p : Passage) (new : Turn) (q : Passage) → p ≡ q → one_turn turn p new q ≡ new
+unfolding one_turn
+turn_same turn p new q is = pick_yes (passage_cases p q) new (turn q) is
+
+turn_other : (turn : Passage → Turn) (p : Passage) (new : Turn) (q : Passage) → (p ≡ q → ⊥) → one_turn turn p new q ≡ turn q
+unfolding one_turn
+turn_other turn p new q differ = pick_no (passage_cases p q) new (turn q) differ
 
 module _ (network : Network) (offsets : List ℕ) (slack cycles number : ℕ) (frames : List Frame)
     (begun : AreBegun network offsets slack cycles no_start frames) (line : AreInLine network cycles frames)
@@ -46,7 +71,7 @@ module _ (network : Network) (offsets : List ℕ) (slack cycles number : ℕ) (f
   after = slice_set frames number new
 
   abbrev turns : Passage → Turn
-  turns = turned begun.turn (passage_of frame) (turn_of new)
+  turns = one_turn begun.turn (passage_of frame) (turn_of new)
 
   abbrev plan : Plan
   plan = record { offsets = offsets; slack = slack; turn = turns }
@@ -54,8 +79,8 @@ module _ (network : Network) (offsets : List ℕ) (slack cycles number : ℕ) (f
   here : frame_in after number ≡ new
   here = frame_set_same frames number new below
 
-  here_at : (n : ℕ) → number ≡ n → frame_in after n ≡ new
-  here_at n same = ap (frame_in after) (sym same) ∙ here
+  here_at : (n : ℕ) → number ≡ n → frame_in after n ≡ with_turn (frame_in frames n) (turn_of new)
+  here_at n same = ap (frame_in after) (sym same) ∙ (here ∙ (has.is ∙ ap (λ k. with_turn (frame_in frames k) (turn_of new)) same))
 
   elsewhere : (n : ℕ) → (number ≡ n → ⊥) → frame_in after n ≡ frame_in frames n
   elsewhere n differ = frame_set_other frames number n new differ
@@ -63,35 +88,23 @@ module _ (network : Network) (offsets : List ℕ) (slack cycles number : ℕ) (f
   long : length after ≡ length frames
   long = length-set frames number new
 
-  -- a frame keeps what it is, and its hop
-  record Stays (n : ℕ) : Type 0 where
-    stream : (frame_in after n).stream ≡ (frame_in frames n).stream
-    shift : (frame_in after n).shift ≡ (frame_in frames n).shift
-    cycle : (frame_in after n).cycle ≡ (frame_in frames n).cycle
-    hop : (frame_in after n).hop ≡ (frame_in frames n).hop
+  -- an item keeps what it is of, and where it is
+  stays : (n : ℕ) → passage_of (frame_in after n) ≡ passage_of (frame_in frames n)
+  unfolding passage_of
+  stays n = elim (cases_eq number n) [ inl same ↦ ap passage_of (here_at n same) | inr differ ↦ ap passage_of (elsewhere n differ) ]
 
-  stays : (n : ℕ) → Stays n
-  stays n = elim (cases_eq number n) [
-    | inl same ↦
-        let is : frame_in after n ≡ with_turn (frame_in frames n) (turn_of new) = here_at n same
-        ∙ (has.is ∙ ap (λ k. with_turn (frame_in frames k) (turn_of new)) same) in
-        record {
-          stream = ap (λ (f : Frame). f.stream) is;
-          shift = ap (λ (f : Frame). f.shift) is;
-          cycle = ap (λ (f : Frame). f.cycle) is;
-          hop = ap
-              (λ (f : Frame). f.hop) is;
-        }
+  stage_stays : (n : ℕ) → (frame_in after n).stage ≡ (frame_in frames n).stage
+  stage_stays n = elim (cases_eq number n) [
+    | inl same ↦ ap (λ (f : Frame). f.stage) (here_at n same)
     | inr differ ↦
-        let is = elsewhere n differ in
-        record {
-          stream = ap (λ (f : Frame). f.stream) is;
-          shift = ap (λ (f : Frame). f.shift) is;
-          cycle = ap (λ (f : Frame). f.cycle) is;
-          hop = ap
-              (λ (f : Frame). f.hop) is;
-        }
+        ap (λ (f : Frame). f.stage) (elsewhere n differ)
   ]
+
+  visits_stay : (a b : ℕ) → IsOneVisit (frame_in after a) (frame_in after b) → IsOneVisit (frame_in frames a) (frame_in frames b)
+  visits_stay a b one =
+      let of_a = same_visit (frame_in after a) (frame_in frames a) (stays a) in
+      let of_b = same_visit (frame_in after b) (frame_in frames b) (stays b) in
+      (sym of_a.0 ∙ (one.0 ∙ of_b.0), sym of_a.1 ∙ (one.1 ∙ of_b.1))
 
   -- ---- tracked
 
@@ -100,58 +113,47 @@ module _ (network : Network) (offsets : List ℕ) (slack cycles number : ℕ) (f
   is_here =
       let old = begun.tracked.each number below in
       record {
-        stream = old.stream;
-        sent = old.sent;
-        cycle = old.cycle;
-        hop = old.hop;
-        started = old.started;
+        passage = old.passage;
+        gone = old.gone;
         unstarted = old.unstarted;
         ready = old.ready;
-        turn = λ waits. turned_same begun.turn (passage_of frame) (turn_of new) _ refl;
+        turn = λ waits. turn_same begun.turn (passage_of frame) (turn_of new) _ refl;
+        coming = old.coming;
       }
 
   is_elsewhere : (n : ℕ) → n < length frames → (number ≡ n → ⊥) → IsFrame network plan cycles no_start (frame_in frames n)
-  unfolding passage_of
   is_elsewhere n inside differ =
       let old = begun.tracked.each n inside in
       record {
-        stream = old.stream;
-        sent = old.sent;
-        cycle = old.cycle;
-        hop = old.hop;
-        started = old.started;
+        passage = old.passage;
+        gone = old.gone;
         unstarted = old.unstarted;
         ready = old.ready;
-        turn = λ waits. turned_other begun.turn (passage_of frame) (turn_of new) (passage_of (frame_in frames n))
-            (λ same. differ (begun.tracked.distinct number n below inside (ap (λ (p : Passage). p.stream) same) (ap (λ (p : Passage). p.shift) same)
-            (ap (λ (p : Passage). p.cycle) same)))
-            ∙ old.turn waits;
+        turn = λ waits. turn_other begun.turn (passage_of frame) (turn_of new) (passage_of (frame_in frames n))
+            (λ same. differ (begun.tracked.distinct number n below inside same)) ∙ old.turn waits;
+        coming = old.coming;
       }
 
   tracked : IsTracked network plan cycles no_start after
   tracked = record {
     each = λ n inside. elim (cases_eq number n) [
-      | inl same ↦ subst (IsFrame network plan cycles no_start) (sym (here_at n same ∙ has.is)) is_here
+      | inl same ↦ subst (IsFrame network plan cycles no_start) (sym (ap (frame_in after) (sym same) ∙ (here ∙ has.is))) is_here
       | inr differ ↦ let size = long in subst (IsFrame network plan cycles no_start) (sym (elsewhere n differ)) (is_elsewhere n (omega arith) differ)
     ];
-    complete = λ stream shift cycle stream_below sent cycle_below.
-        let at = begun.tracked.complete stream shift cycle stream_below sent cycle_below in
+    complete = λ q passage.
+        let at = begun.tracked.complete q passage in
         let size = long in
-        let is = stays at.0 in
-        (at.0, omega (arith, at.1), is.stream ∙ at.2, is.shift ∙ at.3, is.cycle ∙ at.4);
-    distinct = λ a b a_below b_below stream shift cycle.
+        (at.0, omega (arith, at.1), stays at.0 ∙ at.2);
+    distinct = λ a b a_below b_below same.
         let size = long in
-        let one = stays a in
-        let two = stays b in
-        begun.tracked.distinct a b (omega arith) (omega arith) (sym one.stream ∙ (stream ∙ two.stream)) (sym one.shift ∙ (shift ∙ two.shift))
-        (sym one.cycle ∙ (cycle ∙ two.cycle));
+        begun.tracked.distinct a b (omega arith) (omega arith) (sym (stays a) ∙ (same ∙ stays b));
   }
 
   -- ---- the turns
 
   due_is : (due : ℕ) → IsReady network offsets no_start (passage_of frame) due → frame.ready ≡ due
   unfolding passage_of
-  due_is due (inl (zero_hop, at)) = first.planned number (omega arith) below ∙ sym at
+  due_is due (inl (sent, at)) = first.planned number (omega arith) below ∙ sym at
   due_is due (inr (before, s, next, at, after_it)) = absurd (Contains-nil _ at)
 
   all_turns : (q : Passage) (due : ℕ) → IsPassage network cycles q → IsReady network offsets no_start q due → IsTurn slack due q.stream (turns q)
@@ -159,9 +161,9 @@ module _ (network : Network) (offsets : List ℕ) (slack cycles number : ℕ) (f
   all_turns q due passage is_ready = elim (passage_cases (passage_of frame) q) [
     | inl is ↦
         let at = due_is due (subst (λ x. IsReady network offsets no_start x due) (sym is) is_ready) in
-        subst (IsTurn slack due q.stream) (sym (turned_same begun.turn (passage_of frame) (turn_of new) q is))
+        subst (IsTurn slack due q.stream) (sym (turn_same begun.turn (passage_of frame) (turn_of new) q is))
         (subst (λ i. IsTurn slack due i (turn_of new)) (ap (λ (p : Passage). p.stream) is) (subst (λ n. IsTurn slack n frame.stream (turn_of new)) at has.turn))
-    | inr differ ↦ subst (IsTurn slack due q.stream) (sym (turned_other begun.turn (passage_of frame) (turn_of new) q differ))
+    | inr differ ↦ subst (IsTurn slack due q.stream) (sym (turn_other begun.turn (passage_of frame) (turn_of new) q differ))
         (begun.turns q due passage is_ready)
   ]
 
@@ -170,41 +172,38 @@ module _ (network : Network) (offsets : List ℕ) (slack cycles number : ℕ) (f
 
   -- ---- in line
 
-  behind_all : (a : ℕ) → a < number → (frame_in frames a).stream ≡ frame.stream → frame.hop < hop_count network frame.stream
+  behind_all : (a : ℕ) → a < number → IsOneVisit (frame_in frames a) frame → (frame_in frames a).stage ≡ Queued
       → (frame_in frames a).ready < new.ready
-  behind_all a less stream waits =
+  behind_all a less one queued =
       let last = number - 1 in
       let next : number ≡ last + 1 = omega arith in
-      let hop : frame.hop ≡ 0 = first.hops number below in
       elim (cases_eq a last) [
-        | inl same ↦ subst (λ n. (frame_in frames n).ready < new.ready) (sym same)
-            (has.behind waits last next (subst (λ n. (frame_in frames n).stream ≡ frame.stream) same stream) (first.hops last (omega arith) ∙ sym hop))
+        | inl same ↦ has.behind a (omega arith) one queued
         | inr differ ↦
             let before : a < last = omega arith in
-            let middle : (frame_in frames last).stream ≡ frame.stream = between network cycles frames line a last number before (omega arith) below stream in
-            let at = first.hops last (omega arith) in
-            let last_waits : (frame_in frames last).hop < hop_count network (frame_in frames last).stream = subst
-            (λ i. (frame_in frames last).hop < hop_count network i) (sym middle) (omega arith) in
-            let one = line.readies a last before (omega arith) (stream ∙ sym middle) (first.hops a (omega arith) ∙ sym at) last_waits in
-            let two = has.behind waits last next middle (at ∙ sym hop) in
+            let last_one : IsOneVisit (frame_in frames last) frame =
+            between network cycles frames line a last number before (omega arith) below one in
+            let a_last : IsOneVisit (frame_in frames a) (frame_in frames last) = (one.0 ∙ sym last_one.0, one.1 ∙ sym last_one.1) in
+            let last_queued : (frame_in frames last).stage ≡ Queued =
+            sym (one_stage network offsets number frames first a last (omega arith) (omega arith) a_last) ∙ queued in
+            let sooner = line.readies a last before (omega arith) a_last queued last_queued in
+            let two = has.behind last next last_one last_queued in
             omega arith
       ]
 
-  readies_next : (a b : ℕ) → a < b → b < length after → (frame_in after a).stream ≡ (frame_in after b).stream → (frame_in after a).hop ≡ (frame_in after b).hop
-      → (frame_in after b).hop < hop_count network (frame_in after b).stream → (frame_in after a).ready < (frame_in after b).ready
-  readies_next a b less inside stream hop waits =
+  readies_next : (a b : ℕ) → a < b → b < length after → IsOneVisit (frame_in after a) (frame_in after b)
+      → (frame_in after a).stage ≡ Queued → (frame_in after b).stage ≡ Queued
+      → (frame_in after a).ready < (frame_in after b).ready
+  readies_next a b less inside one a_queued b_queued =
       let size = long in
-      let one = stays a in
-      let two = stays b in
-      let old_stream : (frame_in frames a).stream ≡ (frame_in frames b).stream = sym one.stream ∙ (stream ∙ two.stream) in
-      let old_hop : (frame_in frames a).hop ≡ (frame_in frames b).hop = sym one.hop ∙ (hop ∙ two.hop) in
-      let old_waits : (frame_in frames b).hop < hop_count network (frame_in frames b).stream = subst
-      (λ i. (frame_in frames b).hop < hop_count network i) two.stream (subst (λ k. k < hop_count network (frame_in after b).stream) two.hop waits) in
-      let old = line.readies a b less (omega arith) old_stream old_hop old_waits in
+      let old_one = visits_stay a b one in
+      let a_old : (frame_in frames a).stage ≡ Queued = sym (stage_stays a) ∙ a_queued in
+      let b_old : (frame_in frames b).stage ≡ Queued = sym (stage_stays b) ∙ b_queued in
+      let old = line.readies a b less (omega arith) old_one a_old b_old in
       elim (cases_eq number b) [
         | inl same ↦
-            let order = behind_all a (omega arith) (subst (λ n. (frame_in frames a).stream ≡ (frame_in frames n).stream) (sym same) old_stream)
-            (subst (λ n. (frame_in frames n).hop < hop_count network (frame_in frames n).stream) (sym same) old_waits) in
+            let order = behind_all a (omega arith)
+            (subst (λ n. IsOneVisit (frame_in frames a) (frame_in frames n)) (sym same) old_one) a_old in
             let at = ap (λ (f : Frame). f.ready) (here_at b same) in
             let kept = ap (λ (f : Frame). f.ready) (elsewhere a (λ is. omega arith)) in
             omega arith
@@ -221,25 +220,40 @@ module _ (network : Network) (offsets : List ℕ) (slack cycles number : ℕ) (f
       ]
 
   pub line_next : AreInLine network cycles after
-  line_next = record {
-    count = long ∙ line.count;
-    place = λ n inside.
-        let size = long in
-        subst (λ i. (frames_below network i * cycles ≤ n) × (n < frames_below network (i + 1) * cycles)) (sym (stays n).stream) (line.place n (omega arith));
-    hops = λ a b less inside same.
-        let size = long in
-        let one = stays a in
-        let two = stays b in
-        let old = line.hops a b less (omega arith) (sym one.stream ∙ (same ∙ two.stream)) in
-        let a_hop = one.hop in
-        let b_hop = two.hop in
-        omega arith;
-    readies = readies_next;
-  }
+  unfolding passage_of
+  line_next =
+      let size = long in
+      record {
+        count = long ∙ line.count;
+        hop = λ n inside. subst (λ (x : Passage). x.hop < hop_count network x.stream) (sym (stays n)) (line.hop n (omega arith));
+        place = λ n inside. subst (λ (x : Passage). (first_visit network x.stream x.hop * cycles ≤ n)
+            × (n < first_visit network x.stream (x.hop + 1) * cycles))
+            (sym (stays n)) (line.place n (omega arith));
+        onward = λ n more inside within.
+            let old_within = subst (λ (x : Passage). x.hop + more < hop_count network x.stream) (stays n) within in
+            let up = line.onward n more (omega arith) old_within in
+            let far = up.0 in
+            let there : n + more * (length (shifts network (frame_in after n).stream) * cycles)
+            ≡ n + more * (length (shifts network (frame_in frames n).stream) * cycles) =
+            ap (λ (x : Passage). n + more * (length (shifts network x.stream) * cycles)) (stays n) in (
+              omega arith,
+              ap (λ m. passage_of (frame_in after m)) there
+                  ∙ (stays (n + more * (length (shifts network (frame_in frames n).stream) * cycles))
+                  ∙ (up.1 ∙ ap (λ (x : Passage). record x { hop = x.hop + more }) (sym (stays n)))),
+            );
+        gone = λ a b less inside one stage. stage_stays a
+            ∙ line.gone a b less (omega arith) (visits_stay a b one) (sym (stage_stays b) ∙ stage);
+        coming = λ a b less inside one stage. stage_stays b
+            ∙ line.coming a b less (omega arith) (visits_stay a b one) (sym (stage_stays a) ∙ stage);
+        readies = readies_next;
+      }
 
   pub first_next : AreFirst network offsets (number + 1) after
+  unfolding passage_of
   first_next = record {
-    hops = λ k inside. let size = long in (stays k).hop ∙ first.hops k (omega arith);
+    stages = λ k inside.
+        let size = long in
+        stage_stays k ∙ (first.stages k (omega arith) ∙ ap (λ (x : Passage). first_stage network x.stream x.hop) (sym (stays k)));
     planned = λ k since inside.
         let size = long in
         let is = elsewhere k (λ same. omega arith) in

@@ -1,8 +1,9 @@
 -- The first frame of a queue, as the frames are gone through.
 use Rattle.std.proofs.Common.{◌≡◌, ℕ, ◌+◌, ◌<◌, ◌⊎◌, List, length, get_or, All, Option, Some, None, sym, subst, arith, inl, inr}
 use Rattle.std.proofs.lemmas.List.{get_or_default}
-use Rattle.tsn_model.specs.Network.{Network, stream_count}
+use Rattle.tsn_model.specs.Network.{Network, stream_count, hop_count}
 use Rattle.tsn_gate.specs.declared.queue.Frame.{Frame}
+use Rattle.tsn_gate.specs.declared.queue.Stage.TheVariants.{Coming}
 use Rattle.tsn_gate.specs.declared.visits.Visit.{Visit}
 use Rattle.tsn_gate.specs.Queue.{Waits, Precedes, IsHead, IsFirstAmong, AreVisits, frame_in}
 
@@ -10,7 +11,7 @@ pub from_frame : (P : Frame → Type 0) (frames : List Frame) (number : ℕ) (d 
     → P (get_or frames number d)
 unfolding frame_in
 from_frame P frames number d below has = subst P (sym
-    (get_or_default frames number d (record { stream = 0; shift = 0; cycle = 0; hop = 0; ready = 0; rank = 0 }) below)) has
+    (get_or_default frames number d (record { stream = 0; hop = 0; shift = 0; cycle = 0; stage = Coming; ready = 0; rank = 0 }) below)) has
 
 pub precedes_further : (a b c : Frame) → Precedes a b → Precedes b c → Precedes a c
 precedes_further a b c (inl less) (inl more) = inl (omega arith)
@@ -61,10 +62,11 @@ visited_more visits count frame (k, below, same) = grind arith
 
 -- a frame that waits on the link is of a stream that has a hop there
 module _ (network : Network) (frames : List Frame) (link : ℕ) (streams : All (λ (frame : Frame). frame.stream < stream_count network) frames)
+    (hops : (number : ℕ) → number < length frames → (frame_in frames number).hop < hop_count network (frame_in frames number).stream)
     (visits : List Visit) (are : AreVisits network link visits) where
   visited : (number : ℕ) → number < length frames → Waits network link (frame_in frames number) → IsVisited visits (length visits) (frame_in frames number)
   unfolding frame_in
-  visited number below waits = grind (arith, get_or_default)
+  visited number below waits = grind (arith, get_or_default, hops)
 
   pub head_all : (first : Option ℕ) → IsFirstAmong network frames link (IsVisited visits (length visits)) first → IsHead network frames link first
   head_all None none = λ number below waits. none number below (visited number below waits) waits

@@ -1,139 +1,34 @@
--- The frames of each stream in line: where the first one on a link is found, and that a start keeps the line.
-use Rattle.std.proofs.Common.{◌≡◌, ℕ, ◌+◌, ◌*◌, ◌-◌, ◌≤◌, ◌<◌, ◌⊎◌, ltb, ltb-true, lt-ltb, List, length, get_or, map, slice_set, Option, Some, None, sym, ap, ◌∙◌, subst, arith, inl, inr, add-mul}
-use Rattle.std.proofs.lemmas.Bool.{cases_order, cases_eq}
-use Rattle.std.specs.List as lists
-use Rattle.std.specs.List.Sorted.{IsPartitionedBy}
-use Rattle.std.proofs.lemmas.List.{length-set, get_or_default}
-use Rattle.std.proofs.lemmas.List.Edits.{length-between, get_or-between}
+-- A start keeps the items of each stream's hop in line.
+use Rattle.std.proofs.Common.{◌≡◌, ℕ, ◌+◌, ◌*◌, ◌-◌, ◌≤◌, ◌<◌, ◌⊎◌, List, length, map, Some, refl, sym, ap, ◌∙◌, subst, arith, inl, inr}
+use Rattle.std.proofs.lemmas.Bool.{cases_eq}
 use Rattle.std.proofs.lemmas.List.Elements.{All-contains, Contains-append_left}
-use Rattle.tsn_model.specs.Network.{Network, IsWellFormed, stream_count, hop_count, route_link}
-use Rattle.tsn_model.specs.Timing.{hop_delay, shifts, Sends}
+use Rattle.tsn_model.specs.Network.{Network, IsWellFormed, route_of, hop_count, route_link, Continues}
+use Rattle.tsn_model.specs.Timing.{hop_delay, shifts}
 use Rattle.tsn_model.specs.Bridge.{LinkGates, Passage, BridgeRun, link_of, length_of, scheduled_use, background_use, wire_uses, IsPassage, StartedAt, IsReady}
 use Rattle.tsn_model.proofs.Limits.{occupancy-ge}
 use Rattle.tsn_model.proofs.Lists.{Contains-map}
-use Rattle.tsn_model.proofs.Hops.{hop_once, link_exists}
+use Rattle.tsn_model.proofs.Hops.{link_exists, route_formed}
+use Rattle.tsn_model.proofs.Branches.{continued_once, sent_alone}
 use Rattle.tsn_gate.specs.declared.queue.Frame.{Frame}
-use Rattle.tsn_gate.specs.declared.visits.Visit.{Visit}
-use Rattle.tsn_gate.specs.Queue.{Waits, IsHead, AreInLine, IsFirstAmong, IsFirstOnHop, IsVisit, frame_in, passage_of}
-use Rattle.tsn_gate.specs.Progress.{Turn, Plan, IsRunSoFar, IsTracked, HasTurn, advanced}
-use Rattle.tsn_gate.specs.Frames.{frames_below}
-use Rattle.tsn_gate.proofs.Counting.{below-more, blocks-le, one_block}
-use Rattle.tsn_gate.proofs.Advances.{frame_set_same, frame_set_other}
-
--- a frame waits on the link by its stream's route
-waits_by : (network : Network) (link stream : ℕ) (frame : Frame) → frame.stream ≡ stream → Waits network link frame
-    → (frame.hop < hop_count network stream) × (route_link network stream frame.hop ≡ link)
-waits_by network link stream frame same waits =
-    (subst (λ i. frame.hop < hop_count network i) same waits.waits, subst (λ i. route_link network i frame.hop ≡ link) same waits.on)
-
-by_waits : (network : Network) (link stream : ℕ) (frame : Frame) → frame.stream ≡ stream → frame.hop < hop_count network stream
-    → route_link network stream frame.hop ≡ link → Waits network link frame
-by_waits network link stream frame same below on = grind arith
-
--- the frames between two of a stream are of it
-pub between : (network : Network) (cycles : ℕ) (frames : List Frame) → AreInLine network cycles frames → (a middle number : ℕ) → a < middle
-    → middle < number → number < length frames
-    → (frame_in frames a).stream ≡ (frame_in frames number).stream → (frame_in frames middle).stream ≡ (frame_in frames number).stream
-between network cycles frames line a middle number less below whole same =
-    let first = line.place a (omega arith) in
-    let last = line.place number whole in
-    let place = line.place middle (omega arith) in
-    let from : frames_below network (frame_in frames number).stream * cycles ≤ a = subst (λ i. frames_below network i * cycles ≤ a) same first.0 in
-    one_block network cycles (frame_in frames middle).stream (frame_in frames number).stream middle place.0 place.1 (omega arith)
-    (let end = last.1 in omega arith)
-
--- ---- the first frame of a stream
-
--- where a stream's frames end
-block_end : (network : Network) (cycles stream first count : ℕ) → first ≡ frames_below network stream → count ≡ length (shifts network stream)
-    → first * cycles + count * cycles ≡ frames_below network (stream + 1) * cycles
-block_end network cycles stream first count first_is count_is = grind (arith, below-more, add-mul)
-
-module _ (network : Network) (formed : IsWellFormed network) (cycles : ℕ) (frames : List Frame) (line : AreInLine network cycles frames) (stream : ℕ)
-    (counted : stream < stream_count network) (from to : ℕ) (from_is : from ≡ frames_below network stream * cycles)
-    (to_is : to ≡ frames_below network (stream + 1) * cycles) where
-  block_within : to ≤ length frames
-  block_within = grind (arith, blocks-le)
-
-  of_block : (number : ℕ) → from ≤ number → number < to → (frame_in frames number).stream ≡ stream
-  of_block number since upto =
-      let within = block_within in
-      let place = line.place number (omega arith) in
-      one_block network cycles (frame_in frames number).stream stream number place.0 place.1 (omega arith) (omega arith)
-
-  block_hops : (a b : ℕ) → from ≤ a → a < b → b < to → (frame_in frames b).hop ≤ (frame_in frames a).hop
-  block_hops a b since less upto = grind (arith, block_within, of_block)
-
-  in_block : (number : ℕ) → number < length frames → (frame_in frames number).stream ≡ stream → (from ≤ number) × (number < to)
-  in_block number below same = grind arith
-
-  module _ (link hop : ℕ) (below : hop < hop_count network stream) (on : route_link network stream hop ≡ link) where
-    -- its frames that wait on the link are on that hop
-    on_hop : (number : ℕ) → number < length frames → (frame_in frames number).stream ≡ stream → Waits network link (frame_in frames number)
-        → (frame_in frames number).hop ≡ hop
-    on_hop number within same waits = grind (arith, waits_by, hop_once)
-
-    first_waits : (first : Option ℕ) → IsFirstOnHop frames from to hop first
-        → IsFirstAmong network frames link (λ (frame : Frame). frame.stream ≡ stream) first
-    first_waits None none = λ number within same waits. let block = in_block number within same in none number block.0 block.1 (on_hop number within same waits)
-    first_waits (Some first) (since, upto, at, earlier) = grind (arith, block_within, by_waits, of_block, cases_order, on_hop, in_block)
-
--- the same of a visit's stream
-module _ (network : Network) (formed : IsWellFormed network) (cycles : ℕ) (frames : List Frame) (line : AreInLine network cycles frames) (link : ℕ)
-    (visit : Visit)
-    (is : IsVisit network link visit) where
-  abbrev from : ℕ
-  from = visit.first * cycles
-
-  abbrev to : ℕ
-  to = visit.first * cycles + visit.count * cycles
-
-  from_is : from ≡ frames_below network visit.stream * cycles
-  from_is = ap (λ n. n * cycles) is.first
-
-  to_is : to ≡ frames_below network (visit.stream + 1) * cycles
-  to_is = block_end network cycles visit.stream visit.first visit.count is.first is.count
-
-  pub visit_within : to ≤ length frames
-  visit_within = block_within network formed cycles frames line visit.stream is.stream from to from_is to_is
-
-  pub visit_hops : (a b : ℕ) → from ≤ a → a < b → b < to → (frame_in frames b).hop ≤ (frame_in frames a).hop
-  visit_hops = block_hops network formed cycles frames line visit.stream is.stream from to from_is to_is
-
-  pub visit_waits : (first : Option ℕ) → IsFirstOnHop frames from to visit.hop first
-      → IsFirstAmong network frames link (λ (frame : Frame). frame.stream ≡ visit.stream) first
-  visit_waits = first_waits network formed cycles frames line visit.stream is.stream from to from_is to_is link visit.hop is.hop is.on
-
--- ---- the first frame on a hop
-
-module _ (frames : List Frame) (from to hop : ℕ) (within : to ≤ length frames)
-    (hops : (a b : ℕ) → from ≤ a → a < b → b < to → (frame_in frames b).hop ≤ (frame_in frames a).hop) where
-  pub read_between : (k : ℕ) (d : Frame) → from + k < to → get_or (lists.between from to frames) k d ≡ frame_in frames (from + k)
-  unfolding frame_in
-  read_between k d below = get_or-between frames from to k d below ∙ get_or_default frames (from + k) d
-      (record { stream = 0; shift = 0; cycle = 0; hop = 0; ready = 0; rank = 0 }) (omega arith)
-
-  -- those on later hops come first
-  pub hop_parted : IsPartitionedBy (λ (frame : Frame). ltb hop frame.hop) (lists.between from to frames)
-  hop_parted i j d order below later = grind (arith, length-between, ltb-true, read_between, lt-ltb)
-
-  module _ (point : ℕ) (passed : (k : ℕ) → k < point → hop < (frame_in frames (from + k)).hop)
-      (reached : from + point < to → (frame_in frames (from + point)).hop ≤ hop) where
-    earlier_on : (number : ℕ) → from ≤ number → number < from + point → hop < (frame_in frames number).hop
-    earlier_on number past upto =
-        let is : from + (number - from) ≡ number = omega arith in
-        subst (λ n. hop < (frame_in frames n).hop) is (passed (number - from) (omega arith))
-
-    pub found_on : from + point < to → (frame_in frames (from + point)).hop ≡ hop → IsFirstOnHop frames from to hop (Some (from + point))
-    found_on below at = (omega arith, below, at, λ number past upto same. let further = earlier_on number past upto in omega arith)
-
-    pub none_on : (to ≤ from + point) ⊎ ((frame_in frames (from + point)).hop ≡ hop → ⊥) → IsFirstOnHop frames from to hop None
-    none_on ended number past upto same = grind (arith, earlier_on)
+use Rattle.tsn_gate.specs.declared.queue.Stage.TheVariants.{Coming, Queued, Gone}
+use Rattle.tsn_gate.specs.Queue.{IsHead, AreInLine, IsOneVisit, frame_in, passage_of}
+use Rattle.tsn_gate.specs.Progress.{Turn, Plan, IsRunSoFar, IsTracked, IsOnward, AreMoved, arrived}
+use Rattle.tsn_gate.specs.Frames.{first_visit}
+use Rattle.tsn_gate.proofs.PassageStarts.{not_onward, never_onward, onward_later}
+use Rattle.tsn_gate.proofs.Blocks.{between}
+use Rattle.tsn_gate.proofs.Stages.{stage_cases}
+use Rattle.tsn_gate.proofs.Moved.{moved_cases, gone_stage, come_stage, same_passage, kept_visit}
 
 -- ---- a start
 
 module _ (network : Network) (formed : IsWellFormed network) (plan : Plan) (gates : List LinkGates) (cycles : ℕ) (free : ℕ → ℕ) (now : ℕ)
     (run : BridgeRun) (so_far : IsRunSoFar network plan gates cycles free now run) where
+  -- a passage is ready once it has started on the hop that its own continues
+  ready_after : (q : Passage) (before s : ℕ) → Continues network (route_of network q.stream) before q.hop
+      → StartedAt run (record q { hop = before }) s
+      → (due : ℕ) × IsReady network plan.offsets run q due
+  ready_after q before s next at = (s + hop_delay network q.stream (route_link network q.stream before), inr (before, s, next, at, refl))
+
   -- a passage that started did so before its wire is free
   begun_before : (p : Passage) (s : ℕ) → IsPassage network cycles p → StartedAt run p s → s < free (link_of network p)
   unfolding wire_uses scheduled_use length_of link_of
@@ -146,125 +41,303 @@ module _ (network : Network) (formed : IsWellFormed network) (plan : Plan) (gate
       (link_exists network formed p.stream passage.stream p.hop passage.hop) in
       omega arith
 
-  module _ (frames : List Frame) (tracked : IsTracked network plan cycles run frames) (line : AreInLine network cycles frames) (link number time : ℕ)
+  module _ (frames : List Frame) (tracked : IsTracked network plan cycles run frames) (line : AreInLine network cycles frames)
+      (link number time : ℕ)
       (head : IsHead network frames link (Some number)) (wire : free link ≤ time) where
-    -- a frame that is one hop further than the head has been to be ready since before the head will be
-    sooner : (frame : Frame) (due : ℕ) → frame.stream ≡ (frame_in frames number).stream → frame.hop ≡ (frame_in frames number).hop + 1 → frame.cycle < cycles
-        → frame.stream < stream_count network → Sends network frame.stream frame.shift → IsReady network plan.offsets run (passage_of frame) due
-        → due < time + hop_delay network (frame_in frames number).stream
-        (route_link network (frame_in frames number).stream (frame_in frames number).hop)
-    unfolding passage_of link_of
-    sooner frame due stream hop cycle counted sent (inl (first, at)) = absurd (omega arith)
-    sooner frame due stream hop cycle counted sent (inr (before, s, next, at, after)) =
-        let same : before ≡ (frame_in frames number).hop = omega arith in
-        let waits : before < hop_count network frame.stream = subst (λ i. before < hop_count network i) (sym stream)
-        (let below = head.1.waits in omega arith) in
-        let on : route_link network frame.stream before ≡ link = ap (λ i. route_link network i before) stream ∙
-        (ap (route_link network (frame_in frames number).stream) same ∙ head.1.on) in
-        let early = begun_before (record { stream = frame.stream; shift = frame.shift; cycle = frame.cycle; hop = before }) s
-        (record { stream = counted; sent = sent; cycle = cycle; hop = waits }) at in
-        let upto : free (route_link network frame.stream before) ≤ time = subst (λ l. free l ≤ time) (sym on) wire in
-        let delay : hop_delay network frame.stream (route_link network frame.stream before) ≡ hop_delay network (frame_in frames number).stream
-        (route_link network (frame_in frames number).stream (frame_in frames number).hop) = grind arith in
-        omega arith
+    abbrev p : Passage
+    p = passage_of (frame_in frames number)
 
-    -- so it is ready before that
-    pub sooner_ready : (a : ℕ) → a < length frames → (frame_in frames a).stream ≡ (frame_in frames number).stream
-        → (frame_in frames a).hop ≡ (frame_in frames number).hop + 1
-        → (frame_in frames number).hop + 1 < hop_count network (frame_in frames number).stream
-        → (frame_in frames a).ready < (advanced network (frame_in frames number) time).ready
+    p_passage : IsPassage network cycles p
+    p_passage = (tracked.each number head.0).passage
+
+    unstarted : (s : ℕ) → StartedAt run p s → ⊥
+    unstarted s at = let waits = head.1.waits in (tracked.each number head.0).unstarted (λ gone. cc) s at
+
+    abbrev IsCome : ℕ → Type 0
+    IsCome other = IsOnward network p (passage_of (frame_in frames other))
+
+    -- what the frame comes to was still to come
+    pub come_coming : (other : ℕ) → other < length frames → IsCome other → (frame_in frames other).stage ≡ Coming
+    come_coming other below is =
+        let frame = tracked.each other below in
+        elim (stage_cases (frame_in frames other).stage) [
+          | inl coming ↦ coming
+          | inr not_coming ↦ elim not_coming [
+            | inl queued ↦
+                let due = frame.ready queued in
+                absurd (not_onward network formed plan gates cycles free now run so_far p p_passage unstarted
+                (passage_of (frame_in frames other)) due.0 is due.1)
+            | inr gone ↦
+                let begun = frame.gone gone in
+                absurd (never_onward network formed plan gates cycles free now run so_far p p_passage unstarted
+                (passage_of (frame_in frames other)) begun.0 is begun.1)
+          ]
+        ]
+
+    -- what is before the head on its hop is gone
+    earlier_gone : (a : ℕ) → a < number → IsOneVisit (frame_in frames a) (frame_in frames number) → (frame_in frames a).stage ≡ Gone
+    earlier_gone a less one =
+        let whole = head.0 in
+        let waits = head.1.waits in
+        elim (stage_cases (frame_in frames a).stage) [
+          | inl coming ↦ let late = line.coming a number less whole one coming in absurd cc
+          | inr not_coming ↦ elim not_coming [
+            | inl queued ↦
+                let sooner = line.readies a number less whole one queued waits in
+                elim (head.2 a (omega arith) (record { waits = queued; on = (λ i. route_link network (one.0 i) (one.1 i)) ∙ head.1.on })) [
+                  | inl order ↦ absurd (omega arith)
+                  | inr order ↦ let same = order.0 in absurd (omega arith)
+                ]
+            | inr gone ↦ gone
+          ]
+        ]
+
+    -- the item of the same frame on the head's hop
+    record IsAbove (a lower : ℕ) : Type 0 where
+      below : lower < length frames
+      is : passage_of (frame_in frames lower) ≡ record (passage_of (frame_in frames a)) { hop = p.hop }
+      apart : lower + ((frame_in frames a).hop - p.hop) * (length (shifts network p.stream) * cycles) ≡ a
+
+    above : (a : ℕ) → a < length frames → (frame_in frames a).stream ≡ p.stream → p.hop < (frame_in frames a).hop
+        → (lower : ℕ) × IsAbove a lower
     unfolding passage_of
-    sooner_ready a below stream hop inside =
-        let frame = tracked.each a below in
-        let waits : (frame_in frames a).hop < hop_count network (frame_in frames a).stream = subst (λ i. (frame_in frames a).hop < hop_count network i)
-        (sym stream) (omega arith) in
-        let due = frame.ready waits in
-        let turn = frame.turn waits in
-        let passage : IsPassage network cycles
-        (passage_of (frame_in frames a)) = record { stream = frame.stream; sent = frame.sent; cycle = frame.cycle; hop = waits } in
-        let upto = (so_far.turns (passage_of (frame_in frames a)) due.0 passage due.1).upto in
-        let is : (frame_in frames a).ready ≤ due.0 = subst (λ (x : Turn). x.ready ≤ due.0) turn upto in
-        let late = sooner (frame_in frames a) due.0 stream hop frame.cycle frame.stream frame.sent due.1 in
+    above a below stream later =
+        let frame = frame_in frames a in
+        let passage = (tracked.each a below).passage in
+        let hop_is = passage.hop in
+        let at = tracked.complete (record (passage_of frame) { hop = p.hop })
+        (record { stream = passage.stream; sent = passage.sent; cycle = passage.cycle; hop = omega arith }) in
+        let more = frame.hop - p.hop in
+        let its_hop : (frame_in frames at.0).hop ≡ p.hop = ap (λ (x : Passage). x.hop) at.2 in
+        let its_stream : (frame_in frames at.0).stream ≡ frame.stream = ap (λ (x : Passage). x.stream) at.2 in
+        let sum : (frame_in frames at.0).hop + more ≡ frame.hop = omega arith in
+        let up = line.onward at.0 more at.1
+        (subst (λ i. (frame_in frames at.0).hop + more < hop_count network i) (sym its_stream) (omega arith)) in
+        let same : passage_of
+        (frame_in frames (at.0 + more * (length (shifts network (frame_in frames at.0).stream) * cycles))) ≡ passage_of frame =
+        up.1 ∙ (λ i. record { stream = (at.2 i).stream; shift = (at.2 i).shift; cycle = (at.2 i).cycle; hop = sum i }) in
+        let number_is = tracked.distinct
+        (at.0 + more * (length (shifts network (frame_in frames at.0).stream) * cycles)) a up.0 below same in (
+          at.0,
+          record {
+            below = at.1;
+            is = at.2;
+            apart = ap (λ n. at.0 + more * (length (shifts network n) * cycles)) (sym (its_stream ∙ stream)) ∙ number_is;
+          },
+        )
+
+    -- so what is before that on its hop isn't still to come
+    not_coming : (a other : ℕ) → a < other → other < length frames → IsCome other → IsOneVisit (frame_in frames a) (frame_in frames other)
+        → (frame_in frames a).stage ≡ Coming → ⊥
+    unfolding passage_of
+    not_coming a other less below is one coming =
+        let later : p.hop < (frame_in frames other).hop =
+        onward_later network formed plan gates cycles free now run so_far p p_passage unstarted (passage_of (frame_in frames other)) is in
+        let other_stream : (frame_in frames other).stream ≡ p.stream = ap (λ (x : Passage). x.stream) is.same in
+        let stream : (frame_in frames a).stream ≡ p.stream = one.0 ∙ other_stream in
+        let hop : (frame_in frames a).hop ≡ (frame_in frames other).hop = one.1 in
+        let low = above a (omega arith) stream (omega arith) in
+        let low_other = above other below other_stream later in
+        let number_is : low_other.0 ≡ number = tracked.distinct low_other.0 number low_other.1.below head.0
+        (low_other.1.is ∙ (λ i.
+        record { stream = (is.same i).stream; shift = (is.same i).shift; cycle = (is.same i).cycle; hop = p.hop })) in
+        let gap : ((frame_in frames a).hop - p.hop) * (length (shifts network p.stream) * cycles)
+        ≡ ((frame_in frames other).hop - p.hop) * (length (shifts network p.stream) * cycles) =
+        ap (λ k. (k - p.hop) * (length (shifts network p.stream) * cycles)) hop in
+        let at = low.1.apart in
+        let other_at = low_other.1.apart in
+        let gone = earlier_gone low.0 (omega arith)
+        (ap (λ (x : Passage). x.stream) low.1.is ∙ stream, ap (λ (x : Passage). x.hop) low.1.is) in
+        let begun = (tracked.each low.0 low.1.below).gone gone in
+        let continues : Continues network (route_of network (frame_in frames a).stream) p.hop (frame_in frames a).hop =
+        subst (Continues network (route_of network (frame_in frames a).stream) p.hop) (sym hop)
+        (subst (λ i. Continues network (route_of network i) p.hop (frame_in frames other).hop) (sym stream) is.continues) in
+        let ready = ready_after (passage_of (frame_in frames a)) p.hop begun.0 continues
+        (subst (λ x. StartedAt run x begun.0) low.1.is begun.1) in
+        (tracked.each a (omega arith)).coming coming ready.0 ready.1
+
+    -- a frame that waits before that on its hop has been ready since before this one will be
+    sooner : (q : Passage) (due : ℕ) → IsPassage network cycles q → q.stream ≡ p.stream
+        → Continues network (route_of network q.stream) p.hop q.hop
+        → IsReady network plan.offsets run q due → due < time + hop_delay network p.stream (route_link network p.stream p.hop)
+    unfolding passage_of link_of
+    sooner q due passage stream continues (inl (first, at)) =
+        absurd (sent_alone network (route_of network q.stream) (route_formed network formed q.stream passage.stream) p.hop q.hop
+        (subst (λ i. p.hop < hop_count network i) (sym stream) p_passage.hop) continues first)
+    sooner q due passage stream continues (inr (before, s, next, at, after)) =
+        let begun = All-contains (λ begun. IsPassage network cycles begun.passage) run.scheduled
+        (record { passage = record q { hop = before }; time = s }) so_far.passages at in
+        let same : before ≡ p.hop =
+        continued_once network (route_of network q.stream)
+        (route_formed network formed q.stream passage.stream) before p.hop q.hop begun.hop
+        (subst (λ i. p.hop < hop_count network i) (sym stream) p_passage.hop) passage.hop next continues in
+        let early = begun_before (record q { hop = before }) s begun at in
+        let here : route_link network q.stream before ≡ route_link network p.stream p.hop = λ i. route_link network (stream i) (same i) in
+        let upto : free (route_link network q.stream before) ≤ time = subst (λ l. free l ≤ time) (sym (here ∙ head.1.on)) wire in
+        let delay : hop_delay network q.stream (route_link network q.stream before) ≡ hop_delay network p.stream
+        (route_link network p.stream p.hop) =
+        λ i. hop_delay network (stream i) (here i) in
         omega arith
 
-    -- those of its stream before the head are on later hops
-    ahead : (a : ℕ) → a < number → (frame_in frames a).stream ≡ (frame_in frames number).stream → (frame_in frames number).hop < (frame_in frames a).hop
-    ahead a less stream = grind (arith, by_waits)
+    pub sooner_ready : (a other : ℕ) → a < length frames → other < length frames → IsCome other
+        → IsOneVisit (frame_in frames a) (frame_in frames other)
+        → (frame_in frames a).stage ≡ Queued
+        → (frame_in frames a).ready < (arrived network (frame_in frames number) time (frame_in frames other)).ready
+    unfolding passage_of
+    sooner_ready a other below other_below is one queued =
+        let frame = tracked.each a below in
+        let due = frame.ready queued in
+        let turn = frame.turn queued in
+        let upto = (so_far.turns (passage_of (frame_in frames a)) due.0 frame.passage due.1).upto in
+        let ready : (frame_in frames a).ready ≤ due.0 = subst (λ (x : Turn). x.ready ≤ due.0) turn upto in
+        let stream : (frame_in frames a).stream ≡ p.stream = one.0 ∙ ap (λ (x : Passage). x.stream) is.same in
+        let continues : Continues network (route_of network (frame_in frames a).stream) p.hop (frame_in frames a).hop =
+        subst (Continues network (route_of network (frame_in frames a).stream) p.hop) (sym one.1)
+        (subst (λ i. Continues network (route_of network i) p.hop (frame_in frames other).hop) (sym stream) is.continues) in
+        let late = sooner (passage_of (frame_in frames a)) due.0 frame.passage stream continues due.1 in
+        omega arith
 
-    -- the frame moves on, behind the one before it
-    module _ (moved : Frame) (has : HasTurn network plan.slack frames number (advanced network (frame_in frames number) time) (time + 1) moved) where
-      moved_stream : moved.stream ≡ (frame_in frames number).stream
-      moved_stream = ap (λ (f : Frame). f.stream) has.is
+    -- the items after the start
+    module _ (moved : List Frame) (are : AreMoved network plan.slack frames number time moved) where
+      cases : (other : ℕ) → (number ≡ other) ⊎ IsCome other ⊎ (frame_in moved other ≡ frame_in frames other)
+      cases = moved_cases network plan.slack frames number time moved are
 
-      moved_hop : moved.hop ≡ (frame_in frames number).hop + 1
-      moved_hop = ap (λ (f : Frame). f.hop) has.is
+      same_stage : (other : ℕ) → frame_in moved other ≡ frame_in frames other → (frame_in moved other).stage ≡ (frame_in frames other).stage
+      same_stage other same = ap (λ (f : Frame). f.stage) same
 
-      -- all frames of the stream that are before it on its new hop are ready before
-      behind_all : (a : ℕ) → a < number → (frame_in frames a).stream ≡ (frame_in frames number).stream
-          → (frame_in frames a).hop ≡ (frame_in frames number).hop + 1
-          → (frame_in frames number).hop + 1 < hop_count network (frame_in frames number).stream → (frame_in frames a).ready < moved.ready
-      behind_all a less stream hop inside =
-          let last = number - 1 in
-          let next : number ≡ last + 1 = omega arith in
-          let whole = head.0 in
+      -- what comes before is gone, where this one is
+      gone_kept : (a b : ℕ) → a < b → b < length frames → IsOneVisit (frame_in frames a) (frame_in frames b)
+          → (frame_in moved b).stage ≡ Gone → (frame_in moved a).stage ≡ Gone
+      gone_kept a b less below one gone =
+          let before : (frame_in frames a).stage ≡ Gone = elim (cases b) [
+            | inl same ↦ earlier_gone a (omega arith) (subst (λ n. IsOneVisit (frame_in frames a) (frame_in frames n)) (sym same) one)
+            | inr not_here ↦ elim not_here [
+              | inl is ↦ let queued = come_stage network plan.slack frames number time moved are b below is in absurd cc
+              | inr kept ↦ line.gone a b less below one (sym (same_stage b kept) ∙ gone)
+            ]
+          ] in
+          elim (cases a) [
+            | inl same ↦ gone_stage network plan.slack frames number time moved are a same
+            | inr not_here ↦ elim not_here [
+              | inl is ↦ let coming = come_coming a (omega arith) is in absurd cc
+              | inr kept ↦ same_stage a kept ∙ before
+            ]
+          ]
+
+      coming_kept : (a b : ℕ) → a < b → b < length frames → IsOneVisit (frame_in frames a) (frame_in frames b)
+          → (frame_in moved a).stage ≡ Coming → (frame_in moved b).stage ≡ Coming
+      coming_kept a b less below one coming =
+          let before : (frame_in frames a).stage ≡ Coming = elim (cases a) [
+            | inl same ↦ let gone = gone_stage network plan.slack frames number time moved are a same in absurd cc
+            | inr not_here ↦ elim not_here [
+              | inl is ↦ let queued = come_stage network plan.slack frames number time moved are a (omega arith) is in absurd cc
+              | inr kept ↦ sym (same_stage a kept) ∙ coming
+            ]
+          ] in
+          let after = line.coming a b less below one before in
+          elim (cases b) [
+            | inl same ↦
+                let waits = head.1.waits in
+                let at = ap (λ n. (frame_in frames n).stage) same in
+                absurd cc
+            | inr not_here ↦ elim not_here [
+              | inl is ↦ absurd (not_coming a b less below is one before)
+              | inr kept ↦ same_stage b kept ∙ after
+            ]
+          ]
+
+      -- the frames that wait where the frame comes to are ready before it
+      behind_all : (a b : ℕ) → a < b → b < length frames → IsCome b → IsOneVisit (frame_in frames a) (frame_in frames b)
+          → (frame_in frames a).stage ≡ Queued → (frame_in frames a).ready < (frame_in moved b).ready
+      behind_all a b less below is one queued =
+          let last = b - 1 in
+          let next : b ≡ last + 1 = omega arith in
+          let has = are.onward b below is in
           elim (cases_eq a last) [
-            | inl same ↦ subst (λ n. (frame_in frames n).ready < moved.ready) (sym same)
-                (has.behind inside last next (subst (λ n. (frame_in frames n).stream ≡ (frame_in frames number).stream) same stream)
-                (subst (λ n. (frame_in frames n).hop ≡ (frame_in frames number).hop + 1) same hop))
+            | inl same ↦ has.behind a (omega arith) one queued
             | inr differ ↦
                 let before : a < last = omega arith in
-                let between : (frame_in frames last).stream ≡ (frame_in frames number).stream = between network cycles frames line a last number before
-                (omega arith) whole stream in
-                let further = ahead last (omega arith) between in
-                let not_further = line.hops a last before (omega arith) (stream ∙ sym between) in
-                let at : (frame_in frames last).hop ≡ (frame_in frames number).hop + 1 = omega arith in
-                let waits : (frame_in frames last).hop < hop_count network (frame_in frames last).stream = subst
-                (λ i. (frame_in frames last).hop < hop_count network i) (sym between) (omega arith) in
-                let one = line.readies a last before (omega arith) (stream ∙ sym between) (hop ∙ sym at) waits in
-                let two = has.behind inside last next between at in
+                let last_one : IsOneVisit (frame_in frames last) (frame_in frames b) =
+                between network cycles frames line a last b before (omega arith) below one in
+                let a_last : IsOneVisit (frame_in frames a) (frame_in frames last) = (one.0 ∙ sym last_one.0, one.1 ∙ sym last_one.1) in
+                let last_queued : (frame_in frames last).stage ≡ Queued = elim (stage_cases (frame_in frames last).stage) [
+                  | inl coming ↦ absurd (not_coming last b (omega arith) below is last_one coming)
+                  | inr not_coming ↦ elim not_coming [
+                    | inl waits ↦ waits
+                    | inr gone ↦ let first_gone = line.gone a last before (omega arith) a_last gone in absurd cc
+                  ]
+                ] in
+                let one_less = line.readies a last before (omega arith) a_last queued last_queued in
+                let two_less = has.behind last next last_one last_queued in
                 omega arith
           ]
 
-      abbrev after : List Frame
-      after = slice_set frames number moved
+      readies_kept : (a b : ℕ) → a < b → b < length frames → IsOneVisit (frame_in frames a) (frame_in frames b)
+          → (frame_in moved a).stage ≡ Queued → (frame_in moved b).stage ≡ Queued
+          → (frame_in moved a).ready < (frame_in moved b).ready
+      readies_kept a b less below one a_queued b_queued = elim (cases a) [
+        | inl same ↦ let gone = gone_stage network plan.slack frames number time moved are a same in absurd cc
+        | inr not_here ↦ elim not_here [
+          | inl is ↦
+              let coming = line.coming a b less below one (come_coming a (omega arith) is) in
+              elim (cases b) [
+                | inl same ↦ let gone = gone_stage network plan.slack frames number time moved are b same in absurd cc
+                | inr b_not_here ↦ elim b_not_here [
+                  | inl b_is ↦ absurd (not_coming a b less below b_is one (come_coming a (omega arith) is))
+                  | inr kept ↦ let stage = same_stage b kept in absurd cc
+                ]
+              ]
+          | inr kept ↦
+              let stage = same_stage a kept in
+              let queued : (frame_in frames a).stage ≡ Queued = sym stage ∙ a_queued in
+              let a_ready = ap (λ (f : Frame). f.ready) kept in
+              elim (cases b) [
+                | inl same ↦ let gone = gone_stage network plan.slack frames number time moved are b same in absurd cc
+                | inr b_not_here ↦ elim b_not_here [
+                  | inl b_is ↦ let order = behind_all a b less below b_is one queued in omega arith
+                  | inr b_kept ↦
+                      let b_stage : (frame_in frames b).stage ≡ Queued = sym (same_stage b b_kept) ∙ b_queued in
+                      let order = line.readies a b less below one queued b_stage in
+                      let b_ready = ap (λ (f : Frame). f.ready) b_kept in
+                      omega arith
+                ]
+              ]
+        ]
+      ]
 
-      at_head : (n : ℕ) → number ≡ n → frame_in after n ≡ moved
-      at_head n same = subst (λ k. frame_in after k ≡ moved) same (frame_set_same frames number moved head.0)
+      abbrev visits_kept : (a b : ℕ) → a < length frames → b < length frames → IsOneVisit (frame_in moved a) (frame_in moved b)
+          → IsOneVisit (frame_in frames a) (frame_in frames b)
+      visits_kept = kept_visit network plan.slack frames number time moved are
 
-      elsewhere : (n : ℕ) → (number ≡ n → ⊥) → frame_in after n ≡ frame_in frames n
-      elsewhere n differ = frame_set_other frames number n moved differ
+      same_passage_at : (n : ℕ) → n < length frames → passage_of (frame_in frames n) ≡ passage_of (frame_in moved n)
+      same_passage_at n below = sym (same_passage network plan.slack frames number time moved are n below)
 
-      long : length after ≡ length frames
-      long = length-set frames number moved
-
-      -- a frame keeps its stream
-      same_stream : (n : ℕ) → (frame_in after n).stream ≡ (frame_in frames n).stream
-      same_stream n = grind (arith, at_head, elsewhere, moved_stream)
-
-      hops_kept : (a b : ℕ) → a < b → b < length after → (frame_in after a).stream ≡ (frame_in after b).stream → (frame_in after b).hop ≤ (frame_in after a).hop
-      hops_kept a b less below same =
-          let size = long in
-          let old_same : (frame_in frames a).stream ≡ (frame_in frames b).stream = sym (same_stream a) ∙ (same ∙ same_stream b) in
-          let old = line.hops a b less (omega arith) old_same in
-          grind (arith, at_head, elsewhere, ahead, moved_hop)
-
-      readies_kept : (a b : ℕ) → a < b → b < length after → (frame_in after a).stream ≡ (frame_in after b).stream
-          → (frame_in after a).hop ≡ (frame_in after b).hop
-          → (frame_in after b).hop < hop_count network (frame_in after b).stream → (frame_in after a).ready < (frame_in after b).ready
-      readies_kept a b less below same hop waits =
-          let size = long in
-          let old_same : (frame_in frames a).stream ≡ (frame_in frames b).stream = sym (same_stream a) ∙ (same ∙ same_stream b) in
-          let old = line.hops a b less (omega arith) old_same in
-          let old_waits : (frame_in after b).hop < hop_count network (frame_in frames b).stream = subst (λ i. (frame_in after b).hop < hop_count network i)
-          (same_stream b) waits in
-          grind (arith, at_head, elsewhere, behind_all, moved_hop)
-
-      pub line_kept : AreInLine network cycles after
-      line_kept = record {
-        count = long ∙ line.count;
-        place = λ n below.
-            let size = long in
-            subst (λ i. (frames_below network i * cycles ≤ n) × (n < frames_below network (i + 1) * cycles)) (sym (same_stream n)) (line.place n (omega arith));
-        hops = hops_kept;
-        readies = readies_kept;
-      }
+      pub line_kept : AreInLine network cycles moved
+      unfolding passage_of
+      line_kept =
+          let size = are.count in
+          record {
+            count = are.count ∙ line.count;
+            hop = λ n below. subst (λ (x : Passage). x.hop < hop_count network x.stream) (same_passage_at n (omega arith))
+                (line.hop n (omega arith));
+            place = λ n below. subst (λ (x : Passage). (first_visit network x.stream x.hop * cycles ≤ n)
+                × (n < first_visit network x.stream (x.hop + 1) * cycles))
+                (same_passage_at n (omega arith)) (line.place n (omega arith));
+            onward = λ n more below inside.
+                let old_below : n < length frames = omega arith in
+                let is = same_passage_at n old_below in
+                let old_inside = subst (λ (x : Passage). x.hop + more < hop_count network x.stream) (sym is) inside in
+                let up = line.onward n more old_below old_inside in
+                let far = up.0 in
+                let there : n + more * (length (shifts network (frame_in moved n).stream) * cycles)
+                ≡ n + more * (length (shifts network (frame_in frames n).stream) * cycles) =
+                ap (λ (x : Passage). n + more * (length (shifts network x.stream) * cycles)) (sym is) in (
+                  omega arith,
+                  ap (λ m. passage_of (frame_in moved m)) there
+                      ∙ (sym (same_passage_at (n + more * (length (shifts network (frame_in frames n).stream) * cycles)) far)
+                      ∙ (up.1 ∙ ap (λ (x : Passage). record x { hop = x.hop + more }) is)),
+                );
+            gone = λ a b less below one. gone_kept a b less (omega arith) (visits_kept a b (omega arith) (omega arith) one);
+            coming = λ a b less below one. coming_kept a b less (omega arith) (visits_kept a b (omega arith) (omega arith) one);
+            readies = λ a b less below one. readies_kept a b less (omega arith) (visits_kept a b (omega arith) (omega arith) one);
+          }

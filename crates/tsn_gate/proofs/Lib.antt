@@ -24,8 +24,12 @@ pub mod Heads
 pub mod Listed
 pub mod Nexts
 pub mod Tracking
+pub mod Moved
 pub mod Advances
+pub mod Handing
 pub mod Fresh
+pub mod Stages
+pub mod Blocks
 pub mod InLine
 pub mod Visited
 pub mod Steps

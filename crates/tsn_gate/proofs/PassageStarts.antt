@@ -1,13 +1,15 @@
 -- A run stays a bridge run by the start of a scheduled frame that is first in its queue.
 use Rattle.std.proofs.Common.{◌≡◌, ℕ, ◌+◌, ◌≤◌, ◌<◌, ◌⊎◌, List, [], ◌∷◌, ◌++◌, map, refl, sym, ap, ◌∙◌, subst, arith, inl, inr, get_or}
-use Rattle.std.proofs.lemmas.List.Elements.{All-push, All-weaker, Contains-push, Contains-push_cases, Contains-append_left}
+use Rattle.std.proofs.lemmas.List.Elements.{All-contains, All-push, All-weaker, Contains-push, Contains-push_cases, Contains-append_left}
 use Rattle.std.proofs.lemmas.List.{map-append}
-use Rattle.tsn_model.specs.Network.{Network, IsWellFormed}
+use Rattle.std.proofs.lemmas.Bool.{cases_lt, cases_eq}
+use Rattle.tsn_model.specs.Network.{Network, IsWellFormed, IsRoute, route_of, hop_count, from_at, to_at, Continues}
 use Rattle.tsn_model.specs.Bridge.{LinkGates, Passage, ScheduledStart, BridgeRun, link_of, length_of, scheduled_use, background_use, wire_uses, IsPassage, StartedAt, NotStartedBefore, IsReady, FitsAt}
 use Rattle.tsn_model.specs.Network.{route_link}
 use Rattle.tsn_model.specs.Timing.{hop_delay}
-use Rattle.tsn_model.proofs.Hops.{passage_cases}
-use Rattle.tsn_gate.specs.Progress.{Turn, Plan, with_turns, IsTurn, IsHeldUp, IsRunSoFar, IsGreedySoFar, IsDue}
+use Rattle.tsn_model.proofs.Hops.{passage_cases, route_formed}
+use Rattle.tsn_model.proofs.Branches.{continued_once, sent_alone, continues-before}
+use Rattle.tsn_gate.specs.Progress.{Turn, Plan, with_turns, IsTurn, IsHeldUp, IsRunSoFar, IsGreedySoFar, IsDue, IsOnward}
 use Rattle.tsn_gate.proofs.Progress.{Extends, AddsUse, ready_more, goes_more, waits_more, greedy_more, adds_use}
 
 -- the run with one more start, of a passage or of a background frame
@@ -32,46 +34,117 @@ uses_split network run = refl
 
 -- ---- one more turn
 
-pick : {X : Type 0} {A : Type 0} → A ⊎ (A → ⊥) → X → X → X
+pub pick : {X : Type 0} {A : Type 0} → A ⊎ (A → ⊥) → X → X → X
 pick (inl holds) x y = x
 pick (inr fails) x y = y
 
-pick_yes : {X : Type 0} {A : Type 0} (cases : A ⊎ (A → ⊥)) (x y : X) → A → pick cases x y ≡ x
+pub pick_yes : {X : Type 0} {A : Type 0} (cases : A ⊎ (A → ⊥)) (x y : X) → A → pick cases x y ≡ x
 unfolding pick
 pick_yes (inl holds) x y is = refl
 pick_yes (inr fails) x y is = absurd (fails is)
 
-pick_no : {X : Type 0} {A : Type 0} (cases : A ⊎ (A → ⊥)) (x y : X) → (A → ⊥) → pick cases x y ≡ y
+pub pick_no : {X : Type 0} {A : Type 0} (cases : A ⊎ (A → ⊥)) (x y : X) → (A → ⊥) → pick cases x y ≡ y
 unfolding pick
 pick_no (inl holds) x y never = absurd (never holds)
 pick_no (inr fails) x y never = refl
 
--- the turns with one of a passage
-pub turned : (Passage → Turn) → Passage → Turn → Passage → Turn
-turned turn p new q = pick (passage_cases p q) new (turn q)
+-- whether one passage is onward of another one
+pub onward_cases : (network : Network) (p q : Passage) → IsOnward network p q ⊎ (IsOnward network p q → ⊥)
+onward_cases network p q = elim (passage_cases q (record p { hop = q.hop })) [
+  | inl same ↦ elim (cases_lt q.hop (hop_count network p.stream)) [
+    | inl inside ↦ elim (cases_eq (to_at network (route_of network p.stream) p.hop) (from_at network (route_of network p.stream) q.hop)) [
+      | inl continues ↦ inl (record { same = same; inside = inside; continues = continues })
+      | inr apart ↦ inr (λ is. apart is.continues)
+    ]
+    | inr past ↦ inr (λ is. let inside = is.inside in omega arith)
+  ]
+  | inr differ ↦ inr (λ is. differ is.same)
+]
 
-pub turned_same : (turn : Passage → Turn) (p : Passage) (new : Turn) (q : Passage) → p ≡ q → turned turn p new q ≡ new
+-- the turns with those of the passages that are onward of one
+pub turned : Network → (Passage → Turn) → Passage → (Passage → Turn) → Passage → Turn
+turned network turn p next q = pick (onward_cases network p q) (next q) (turn q)
+
+pub turned_onward : (network : Network) (turn : Passage → Turn) (p : Passage) (next : Passage → Turn) (q : Passage) → IsOnward network p q
+    → turned network turn p next q ≡ next q
 unfolding turned
-turned_same turn p new q is = pick_yes (passage_cases p q) new (turn q) is
+turned_onward network turn p next q is = pick_yes (onward_cases network p q) (next q) (turn q) is
 
-pub turned_other : (turn : Passage → Turn) (p : Passage) (new : Turn) (q : Passage) → (p ≡ q → ⊥) → turned turn p new q ≡ turn q
+pub turned_other : (network : Network) (turn : Passage → Turn) (p : Passage) (next : Passage → Turn) (q : Passage)
+    → (IsOnward network p q → ⊥)
+    → turned network turn p next q ≡ turn q
 unfolding turned
-turned_other turn p new q differ = pick_no (passage_cases p q) new (turn q) differ
+turned_other network turn p next q never = pick_no (onward_cases network p q) (next q) (turn q) never
 
--- the same frame on its next hop
-abbrev pub onward : Passage → Passage
-onward p = record p { hop = p.hop + 1 }
+module _ (network : Network) (formed : IsWellFormed network) (plan : Plan) (gates : List LinkGates) (cycles : ℕ)
+    (free : ℕ → ℕ) (now : ℕ) (run : BridgeRun)
+    (so_far : IsRunSoFar network plan gates cycles free now run) (p : Passage) (p_passage : IsPassage network cycles p)
+    (unstarted : (s : ℕ) → StartedAt run p s → ⊥) where
+  pub route_is : IsRoute network (route_of network p.stream)
+  route_is = route_formed network formed p.stream p_passage.stream
+
+  -- the frame wasn't ready for the hops that continue this one before
+  not_ready : (k t : ℕ) → k < hop_count network p.stream → Continues network (route_of network p.stream) p.hop k
+      → IsReady network plan.offsets run (record p { hop = k }) t → ⊥
+  not_ready k t below continues (inl (sent, at)) =
+      sent_alone network (route_of network p.stream) route_is p.hop k p_passage.hop continues sent
+  not_ready k t below continues (inr (before, s, from, at, after_it)) =
+      let begun = All-contains (λ (begun : ScheduledStart). IsPassage network cycles begun.passage) run.scheduled
+      (record { passage = record p { hop = before }; time = s }) so_far.passages at in
+      let same = continued_once network (route_of network p.stream) route_is before p.hop k begun.hop p_passage.hop below from continues in
+      unstarted s (subst (λ j. StartedAt run (record p { hop = j }) s) same at)
+
+  pub not_onward : (q : Passage) (t : ℕ) → IsOnward network p q → IsReady network plan.offsets run q t → ⊥
+  not_onward q t is is_ready = not_ready q.hop t is.inside is.continues (subst (λ x. IsReady network plan.offsets run x t) is.same is_ready)
+
+  -- and hasn't started there
+  pub never_onward : (q : Passage) (s : ℕ) → IsOnward network p q → StartedAt run q s → ⊥
+  never_onward q s is at =
+      let begun = All-contains
+      (λ (begun : ScheduledStart). (t : ℕ) × IsReady network plan.offsets run begun.passage t
+      × ((plan.turn begun.passage).ready ≤ begun.time))
+      run.scheduled (record { passage = q; time = s }) so_far.begun_ready at in
+      not_onward q begun.0 is begun.1
+
+  -- a hop that continues another one is a later one
+  pub onward_later : (q : Passage) → IsOnward network p q → p.hop < q.hop
+  onward_later q is = continues-before network (route_of network p.stream) route_is p.hop q.hop p_passage.hop is.inside is.continues
+
+  -- a passage that is ready by the new start is onward of it
+  pub newly_ready : (time : ℕ) (q : Passage) (t : ℕ) → IsPassage network cycles q
+      → IsReady network plan.offsets (with_passage run p time) q t
+      → IsReady network plan.offsets run q t
+      ⊎ (IsOnward network p q × (time + hop_delay network p.stream (route_link network p.stream p.hop) ≡ t))
+  newly_ready time q t passage (inl first) = inl (inl first)
+  newly_ready time q t passage (inr (before, s, follows, at, after_it)) = elim (new_start run p time (record q { hop = before }) s at) [
+    | inl old ↦ inl (inr (before, s, follows, old, after_it))
+    | inr (is, when) ↦
+        let stream : p.stream ≡ q.stream = ap (λ (x : Passage). x.stream) is in
+        let delay : hop_delay network p.stream (route_link network p.stream p.hop) ≡ hop_delay network q.stream (route_link network q.stream before) =
+        ap (λ (x : Passage). hop_delay network x.stream (route_link network x.stream x.hop)) is in
+        inr (
+          record {
+            same = λ i. record { stream = (sym is i).stream; shift = (sym is i).shift; cycle = (sym is i).cycle; hop = q.hop };
+            inside = subst (λ n. q.hop < hop_count network n) (sym stream) passage.hop;
+            continues = subst (λ (x : Passage). Continues network (route_of network x.stream) x.hop q.hop) (sym is) follows;
+          },
+          omega arith,
+        )
+  ]
 
 module _ (network : Network) (formed : IsWellFormed network) (plan : Plan) (gates : List LinkGates) (cycles : ℕ) (free after : ℕ → ℕ) (now : ℕ)
     (run : BridgeRun)
     (so_far : IsRunSoFar network plan gates cycles free now run) (p : Passage) (ready : ℕ) (due : IsDue network plan gates cycles free now run p ready)
-    (next : Turn) (is_next : IsTurn plan.slack (now + hop_delay network p.stream (route_link network p.stream p.hop)) p.stream next) (later : now < next.ready)
+    (next : Passage → Turn)
+    (is_next : (q : Passage) → IsOnward network p q
+    → IsTurn plan.slack (now + hop_delay network p.stream (route_link network p.stream p.hop)) p.stream (next q))
+    (later : (q : Passage) → IsOnward network p q → now < (next q).ready)
     (here : after (link_of network p) ≡ now + length_of network p) (elsewhere : (m : ℕ) → (m ≡ link_of network p → ⊥) → after m ≡ free m) where
   abbrev new : BridgeRun
   new = with_passage run p now
 
   abbrev turns : Passage → Turn
-  turns = turned plan.turn (onward p) next
+  turns = turned network plan.turn p next
 
   added : AddsUse network cycles after now run new
   added = adds_use network plan gates cycles free after now run new so_far (link_of network p) (now + length_of network p)
@@ -85,49 +158,27 @@ module _ (network : Network) (formed : IsWellFormed network) (plan : Plan) (gate
     fresh = λ q s at. elim (new_start run p now q s at) [ inl old ↦ inl old | inr is ↦ let same = is.1 in inr (omega arith) ];
   }
 
-  -- the frame wasn't ready for its next hop before
   pub turns_kept : (q : Passage) (t : ℕ) → IsReady network plan.offsets run q t → turns q ≡ plan.turn q
-  turns_kept q t is_ready = turned_other plan.turn (onward p) next q (λ is. not_onward q is is_ready) where
-    not_onward : (q : Passage) → onward p ≡ q → IsReady network plan.offsets run q t → ⊥
-    not_onward q is (inl (first, at)) = let hop : p.hop + 1 ≡ q.hop = ap (λ (x : Passage). x.hop) is in omega arith
-    not_onward q is (inr (before, s, follows, at, after_it)) =
-        let hop : p.hop + 1 ≡ q.hop = ap (λ (x : Passage). x.hop) is in
-        let same : before ≡ p.hop = omega arith in
-        let same_passage : record q { hop = before } ≡ p = λ i. record {
-          stream = (sym is i).stream;
-          shift = (sym is i).shift;
-          cycle =
-              (sym is i).cycle;
-          hop = same i;
-        } in
-        due.unstarted s (subst (λ x. StartedAt run x s) same_passage at)
+  turns_kept q t is_ready =
+      turned_other network plan.turn p next q
+      (λ is. not_onward network formed plan gates cycles free now run so_far p due.passage_is due.unstarted q t is is_ready)
 
-  -- a passage that is ready by the new start is the frame's next one
-  newly_ready : (q : Passage) (t : ℕ) → IsReady network plan.offsets new q t
-      → IsReady network plan.offsets run q t ⊎ ((onward p ≡ q) × (now + hop_delay network p.stream (route_link network p.stream p.hop) ≡ t))
-  newly_ready q t (inl first) = inl (inl first)
-  newly_ready q t (inr (before, s, follows, at, after_it)) = elim (new_start run p now (record q { hop = before }) s at) [
-    | inl old ↦ inl (inr (before, s, follows, old, after_it))
-    | inr (is, time) ↦
-        let hop : p.hop ≡ before = ap (λ (x : Passage). x.hop) is in
-        let hops : p.hop + 1 ≡ q.hop = omega arith in
-        let delay : hop_delay network p.stream (route_link network p.stream p.hop) ≡ hop_delay network q.stream (route_link network q.stream before) =
-        ap (λ (x : Passage). hop_delay network x.stream (route_link network x.stream x.hop)) is in
-        inr (λ i. record { stream = (is i).stream; shift = (is i).shift; cycle = (is i).cycle; hop = hops i }, omega arith)
-  ]
-
-  passage_ready_less : (q : Passage) (t : ℕ) → IsReady network plan.offsets new q t → IsReady network plan.offsets run q t ⊎ (now < (turns q).ready)
-  passage_ready_less q t is_ready = elim (newly_ready q t is_ready) [
-    | inl old ↦ inl old
-    | inr (is, at) ↦ inr (subst (λ (x : Turn). now < x.ready) (sym (turned_same plan.turn (onward p) next q is)) later)
-  ]
+  passage_ready_less : (q : Passage) (t : ℕ) → IsPassage network cycles q → IsReady network plan.offsets new q t
+      → IsReady network plan.offsets run q t ⊎ (now < (turns q).ready)
+  passage_ready_less q t passage is_ready =
+      elim (newly_ready network formed plan gates cycles free now run so_far p due.passage_is due.unstarted now q t passage is_ready) [
+        | inl old ↦ inl old
+        | inr (is, at) ↦ inr (subst (λ (x : Turn). now < x.ready) (sym (turned_onward network plan.turn p next q is)) (later q is))
+      ]
 
   passage_turns : (q : Passage) (t : ℕ) → IsPassage network cycles q → IsReady network plan.offsets new q t → IsTurn plan.slack t q.stream (turns q)
-  passage_turns q t passage is_ready = elim (newly_ready q t is_ready) [
-    | inl old ↦ subst (IsTurn plan.slack t q.stream) (sym (turns_kept q t old)) (so_far.turns q t passage old)
-    | inr (is, at) ↦ subst (IsTurn plan.slack t q.stream) (sym (turned_same plan.turn (onward p) next q is))
-        (subst (λ i. IsTurn plan.slack t i next) (ap (λ (x : Passage). x.stream) is) (subst (λ n. IsTurn plan.slack n p.stream next) at is_next))
-  ]
+  passage_turns q t passage is_ready =
+      elim (newly_ready network formed plan gates cycles free now run so_far p due.passage_is due.unstarted now q t passage is_ready) [
+        | inl old ↦ subst (IsTurn plan.slack t q.stream) (sym (turns_kept q t old)) (so_far.turns q t passage old)
+        | inr (is, at) ↦ subst (IsTurn plan.slack t q.stream) (sym (turned_onward network plan.turn p next q is))
+            (subst (λ i. IsTurn plan.slack t i (next q)) (sym (ap (λ (x : Passage). x.stream) is.same))
+            (subst (λ n. IsTurn plan.slack n p.stream (next q)) at (is_next q is)))
+      ]
 
   passage_once : (q : Passage) (s t : ℕ) → StartedAt new q s → StartedAt new q t → s ≡ t
   passage_once q s t at_s at_t = elim (new_start run p now q s at_s) [

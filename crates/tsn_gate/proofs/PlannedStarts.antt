@@ -1,5 +1,5 @@
 -- The starts of a link's windows are those that the schedule plans there.
-use Rattle.std.proofs.Common.{◌≡◌, ℕ, ◌<◌, List, map, length, ap, arith, inl, inr}
+use Rattle.std.proofs.Common.{◌≡◌, ℕ, ◌<◌, List, length, ap, arith, inl, inr}
 use Rattle.std.proofs.Math.ListN.{length-map}
 use Rattle.std.proofs.lemmas.Bool.{cases_lt}
 use Rattle.std.proofs.lemmas.List.Elements.{All-map}

@@ -1,6 +1,5 @@
--- A port stays right while time passes, and while frames of other links change.
-use Rattle.std.proofs.Common.{◌≡◌, ℕ, ◌≤◌, ◌<◌, List, length, slice_set, Option, Some, None, sym, subst, arith}
-use Rattle.std.proofs.lemmas.List.{length-set}
+-- A port stays right while time passes, and while frames of other links start.
+use Rattle.std.proofs.Common.{◌≡◌, ℕ, ◌≤◌, ◌<◌, List, length, Option, Some, None, sym, subst, arith}
 use Rattle.tsn_model.specs.declared.GateEntry.{GateEntry}
 use Rattle.tsn_model.specs.Network.{Network}
 use Rattle.tsn_model.specs.Bridge.{length_of}
@@ -8,9 +7,8 @@ use Rattle.tsn_gate.specs.declared.queue.Frame.{Frame}
 use Rattle.tsn_gate.specs.declared.feed.Waiting.{Waiting}
 use Rattle.tsn_gate.specs.declared.port.Port.{Port}
 use Rattle.tsn_gate.specs.Openings.{IsOpenFor}
-use Rattle.tsn_gate.specs.Queue.{Waits, IsHead, frame_in, passage_of}
+use Rattle.tsn_gate.specs.Queue.{Waits, Precedes, IsHead, frame_in, passage_of}
 use Rattle.tsn_gate.specs.Ports.{IsScheduledNext, IsBackgroundNext, IsPort}
-use Rattle.tsn_gate.proofs.Advances.{frame_set_same, frame_set_other}
 
 pub scheduled_later : (network : Network) (entries : List GateEntry) (frames : List Frame) (head : Option ℕ) (from later end time : ℕ) → from ≤ later → later ≤ time
     → IsScheduledNext network entries frames head from end time → IsScheduledNext network entries frames head later end time
@@ -27,34 +25,39 @@ port_later network entries frames waiting link from later end port order by_sche
   background = background_later entries waiting from later end port.background order by_background is.background;
 }
 
-module _ (network : Network) (frames : List Frame) (link number : ℕ) (moved : Frame) (below : number < length frames)
-    (not_old : Waits network link (frame_in frames number) → ⊥) (not_new : Waits network link moved → ⊥) where
-  -- a frame that waits on this link is another one, and as it was
-  same_frame : (p : ℕ) → Waits network link (frame_in frames p) → frame_in (slice_set frames number moved) p ≡ frame_in frames p
-  same_frame p waits = frame_set_other frames number p moved (λ same. not_old (subst (λ n. Waits network link (frame_in frames n)) (sym same) waits))
+module _ (network : Network) (frames moved : List Frame) (link : ℕ) (count : length moved ≡ length frames)
+    (same : (p : ℕ) → p < length frames → Waits network link (frame_in frames p) → frame_in moved p ≡ frame_in frames p)
+    (waited : (p : ℕ) → p < length frames → Waits network link (frame_in moved p) → Waits network link (frame_in frames p)) where
+  head_kept : (head : Option ℕ) → IsHead network frames link head → IsHead network moved link head
+  head_kept None none = λ p p_below waits. none p (omega arith) (waited p (omega arith) waits)
+  head_kept (Some h) (h_below, h_waits, first) =
+      let h_same = same h h_below h_waits in (
+        (omega arith),
+        subst (Waits network link) (sym h_same) h_waits,
+        λ p p_below waits.
+            let below : p < length frames = omega arith in
+            let old = waited p below waits in
+            let p_same = same p below old in
+            subst (λ (f : Frame). Precedes f (frame_in moved p)) (sym h_same)
+            (subst (Precedes (frame_in frames h)) (sym p_same) (first p below old)),
+      )
 
-  waited : (p : ℕ) → Waits network link (frame_in (slice_set frames number moved) p) → Waits network link (frame_in frames p)
-  waited p waits = grind (arith, frame_set_same, frame_set_other)
+  head_same : (head : Option ℕ) (h : ℕ) → head ≡ Some h → IsHead network frames link head → frame_in moved h ≡ frame_in frames h
+  head_same head h is head_is = let at = subst (IsHead network frames link) is head_is in same h at.0 at.1
 
-  head_kept : (head : Option ℕ) → IsHead network frames link head → IsHead network (slice_set frames number moved) link head
-  head_kept None none = λ p p_below waits. let size = length-set frames number moved in none p (omega arith) (waited p waits)
-  head_kept (Some h) (h_below, h_waits, first) = grind (arith, length-set, same_frame, waited)
-
-  head_waits : (head : Option ℕ) (h : ℕ) → head ≡ Some h → IsHead network frames link head → Waits network link (frame_in frames h)
-  head_waits head h is head_is = (subst (IsHead network frames link) is head_is).1
-
-  -- a frame that leaves another link for another link changes nothing here
-  pub port_kept : (entries : List GateEntry) (waiting : Option Waiting) (from end : ℕ) (port : Port) → IsPort network entries frames waiting link from end port → IsPort network entries (slice_set frames number moved) waiting link from end port
+  -- where no frame comes to this link or leaves it nothing changes here
+  pub port_kept : (entries : List GateEntry) (waiting : Option Waiting) (from end : ℕ) (port : Port)
+      → IsPort network entries frames waiting link from end port → IsPort network entries moved waiting link from end port
   port_kept entries waiting from end port is = record {
     head = head_kept port.head is.head;
     scheduled = record {
       forward = is.scheduled.forward;
       none = λ p u at since ready before in_time fits.
-          let same = same_frame p (head_waits port.head p at is.head) in
+          let same = head_same port.head p at is.head in
           is.scheduled.none p u at since (subst (λ (f : Frame). f.ready ≤ u) same ready) before in_time (subst (λ (f : Frame). IsOpenFor entries (length_of network (passage_of f)) u) same fits);
       here = λ in_time.
           let here = is.scheduled.here in_time in
-          let same = same_frame here.0 (head_waits port.head here.0 here.1 is.head) in (
+          let same = head_same port.head here.0 here.1 is.head in (
             here.0,
             here.1,
             subst (λ (f : Frame). f.ready ≤ port.scheduled) (sym same) here.2,

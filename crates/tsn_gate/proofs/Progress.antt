@@ -3,6 +3,7 @@ use Rattle.std.proofs.Common.{◌≡◌, ℕ, ◌+◌, ◌*◌, ◌≤◌, ◌<�
 use Rattle.std.specs.List.{AllPairs}
 use Rattle.std.proofs.lemmas.Bool.{cases_lt, cases_eq}
 use Rattle.std.proofs.lemmas.List.Elements.{All-contains, All-weaker, Contains-push, Contains-append_left, Contains-append_right, Contains-append_cases}
+use Rattle.tsn_model.proofs.Lists.{Contains-nil}
 use Rattle.tsn_model.specs.Network.{Network}
 use Rattle.tsn_model.specs.Bridge.{LinkGates, BackgroundOpen, Passage, BridgeRun, WireUse, link_of, wire_uses, AreDisjoint, IsPassage, StartedAt, NotStartedBefore, IsReady, IsTaken, IsHeld, IsFed}
 use Rattle.tsn_model.specs.Bridge.Background.{greedy}
@@ -72,7 +73,8 @@ module _ (network : Network) (plan : Plan) (turn : Passage → Turn) (gates : Li
       (others : (q : Passage) (due : ℕ) → IsPassage network cycles q → link_of network q ≡ link → IsReady network plan.offsets old q due
       → (plan.turn q).ready ≤ now → NotStartedBefore new q (now + 1)
       → IsHeldUp network plan.offsets gates cycles turn new q now)
-      (ready_less : (q : Passage) (due : ℕ) → IsReady network plan.offsets new q due → IsReady network plan.offsets old q due ⊎ (now < (turn q).ready))
+      (ready_less : (q : Passage) (due : ℕ) → IsPassage network cycles q → IsReady network plan.offsets new q due
+      → IsReady network plan.offsets old q due ⊎ (now < (turn q).ready))
       (elsewhere : (m : ℕ) → (m ≡ link → ⊥) → after m ≡ free m)
       (busy : (m t : ℕ) → now ≤ t → t < after m → IsTaken network new m t)
       (begin : All (λ (wire : WireUse). (wire.from ≤ now) × (wire.from < cycles * network.cycle)) (wire_uses network new)) where
@@ -85,7 +87,7 @@ module _ (network : Network) (plan : Plan) (turn : Passage → Turn) (gates : Li
           let taken = busy (link_of network q) t (omega arith) soon in
           let from = All-contains (λ (wire : WireUse). (wire.from ≤ now) × (wire.from < cycles * network.cycle)) (wire_uses network new) taken.1 begin (taken.0, taken.2, taken.3) in
           inr (inl (taken.0, taken.1, taken.2, taken.3, (taken.4.0, omega arith, taken.4.2)))
-      | inr upto ↦ elim (ready_less q due is_ready) [
+      | inr upto ↦ elim (ready_less q due passage is_ready) [
         | inr late ↦ absurd (omega arith)
         | inl before ↦
             let since_old : (plan.turn q).ready ≤ t = subst (λ (x : Turn). x.ready ≤ t) (same q due before) since in
@@ -240,11 +242,12 @@ run_ends network plan gates cycles free run so_far = record {
   background_length = so_far.background_length;
   background_open = so_far.background_open;
   passages = so_far.passages;
+  silent = λ k d below failed. Contains-nil _ failed;
   once = so_far.once;
   early = λ q due passage is_ready. let turn = so_far.turns q due passage is_ready in (turn.upto, turn.since);
   begun_ready = so_far.begun_ready;
   fits = so_far.fits;
-  waits = λ q due t passage is_ready since in_time none. held_up_delays network plan gates cycles run q t
+  waits = λ q due t passage intact is_ready since in_time none. held_up_delays network plan gates cycles run q t
       (so_far.waits q due t passage is_ready since in_time (inl in_time) none);
 }
 

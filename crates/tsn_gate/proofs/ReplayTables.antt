@@ -38,11 +38,11 @@ pieces_more f g n =
 -- ---- numbers
 
 module _ (network : Network) (formed : IsWellFormed network) (cycles : ℕ) where
-  pub cell_below : (p : Passage) → IsPassage network cycles p → cell_of network p < (p.cycle + 1) * frames_of network * 16
+  pub cell_below : (p : Passage) → IsPassage network cycles p → cell_of network p < (p.cycle + 1) * frames_of network * 64
   unfolding cell_of
   cell_below p is = grind (arith, hops-le, index-below, cycle_below)
 
-  pub cell_inside : (p : Passage) → IsPassage network cycles p → cell_of network p < cycles * frames_of network * 16
+  pub cell_inside : (p : Passage) → IsPassage network cycles p → cell_of network p < cycles * frames_of network * 64
   cell_inside p is = grind (arith, cell_below, mul-le-mul)
 
   pub cell_once : (p q : Passage) → IsPassage network cycles p → IsPassage network cycles q → cell_of network p ≡ cell_of network q → p ≡ q
@@ -55,7 +55,7 @@ module _ (network : Network) (formed : IsWellFormed network) (cycles : ℕ) wher
       let below_p : index_p < frames_of network = index-below network p.stream p.shift is_p.stream is_p.sent in
       let below_q : index_q < frames_of network = index-below network q.stream q.shift is_q.stream is_q.sent in
       let both : p.cycle * frames_of network + index_p ≡ q.cycle * frames_of network + index_q =
-      same_cycle (p.cycle * frames_of network + index_p) (q.cycle * frames_of network + index_q) 16 p.hop q.hop (omega arith) (omega arith) same in
+      same_cycle (p.cycle * frames_of network + index_p) (q.cycle * frames_of network + index_q) 64 p.hop q.hop (omega arith) (omega arith) same in
       let hop : p.hop ≡ q.hop = omega arith in
       let cycle : p.cycle ≡ q.cycle = same_cycle p.cycle q.cycle (frames_of network) index_p index_q below_p below_q both in
       let product : p.cycle * frames_of network ≡ q.cycle * frames_of network = ap (λ n. n * frames_of network) cycle in

@@ -1,7 +1,7 @@
 -- The gates of the small network.
 use Rattle.std.proofs.Common.{◌≡◌, ℕ, zero, suc, ◌+◌, ◌*◌, ◌≤◌, ◌<◌, ◌⊎◌, IsBitSet, bit_and, refl, sym, ap, subst, arith, inl, inr, suc-ne-zero}
 use Rattle.tsn_model.specs.Network.{stream_at, octets_of, turns_of, burst_of, route_of, link_at}
-use Rattle.tsn_model.specs.Timing.{occupancy, transfer, hop_delay, Sends, hop_on, start_on, UsesLink}
+use Rattle.tsn_model.specs.Timing.{occupancy, transfer, hop_delay, ready_after, Sends, hop_on, start_on, UsesLink}
 use Rattle.tsn_model.specs.Schedule.{offset_of}
 use Rattle.tsn_model.specs.Gates.{guard_of, InWindow, InGuard, IsWanted, closed_octet, scheduled_octet, background_octet}
 use Rattle.tsn_model.specs.Kept.{IsKept}
@@ -12,7 +12,7 @@ use Rattle.tsn_gate.proofs.SingleFrames.{one_shift, sent_from_one}
 -- when each stream's window begins
 begins : (i : ℕ) → UsesLink small_network i 4
     → ((i ≡ 0) × (offset_of small_offsets i + start_on small_network i 4 ≡ 1626)) ⊎ ((i ≡ 1) × (offset_of small_offsets i + start_on small_network i 4 ≡ 2298))
-unfolding small_network small_offsets stream_at octets_of route_of link_at occupancy transfer hop_delay start_on hop_on
+unfolding small_network small_offsets stream_at octets_of route_of link_at occupancy transfer hop_delay ready_after start_on hop_on
 begins zero uses = inl (refl, refl)
 begins (suc zero) uses = inr (refl, refl)
 begins (suc (suc k)) uses = absurd (cc uses)

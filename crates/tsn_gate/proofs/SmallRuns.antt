@@ -7,6 +7,7 @@ use Rattle.tsn_model.specs.Timing.{occupancy, transfer, hop_delay, Sends}
 use Rattle.tsn_model.specs.Gates.{cycle_of, IsOctetAt}
 use Rattle.tsn_model.specs.Bridge.{BackgroundOpen, GatesAt, Passage, ScheduledStart, BackgroundStart, BridgeRun, WireUse, link_of, length_of, scheduled_use, background_use, wire_uses, AreDisjoint, IsPassage, StartedAt, NotStartedBefore, IsReady, FitsAt, IsQueuedBefore, IsBlocked, IsBridgeRun, BackgroundFrame, frame_at, IsBefore, FrameStartedBefore, IsTaken, IsHeld, IsFedByList}
 use Rattle.tsn_model.specs.Examples.{small_network}
+use Rattle.tsn_model.proofs.SmallEarly.{follow}
 use Rattle.tsn_gate.proofs.SingleFrames.{one_shift, sent_from_one}
 use Rattle.tsn_gate.specs.ReplayExamples.{open_entries, open_gates, at_once, small_starts, run_of, run_with_twice, sent_at, SmallRun, SmallBackground}
 
@@ -98,6 +99,13 @@ module _ (first second : ℕ) (background : List BackgroundStart) where
       (λ (s : ScheduledStart). at_hop first second s.passage.stream s.passage.hop) is
   began p t (suc (suc (suc (suc k))), below, is) = absurd (omega arith)
 
+  began_hop : (p : Passage) (t : ℕ) → StartedAt run p t → p.hop < 2
+  began_hop p t (zero, below, is) = let hop = ap (λ (s : ScheduledStart). s.passage.hop) is in omega arith
+  began_hop p t (suc zero, below, is) = let hop = ap (λ (s : ScheduledStart). s.passage.hop) is in omega arith
+  began_hop p t (suc (suc zero), below, is) = let hop = ap (λ (s : ScheduledStart). s.passage.hop) is in omega arith
+  began_hop p t (suc (suc (suc zero)), below, is) = let hop = ap (λ (s : ScheduledStart). s.passage.hop) is in omega arith
+  began_hop p t (suc (suc (suc (suc k))), below, is) = absurd (omega arith)
+
   starts_0 : StartedAt run (passage 0 0) 0
   starts_0 = (0, omega arith, refl)
 
@@ -115,10 +123,12 @@ module _ (first second : ℕ) (background : List BackgroundStart) where
   unfolding small_network stream_at octets_of route_of link_at transfer hop_delay
   on_next zero t counted (inl (hop, at)) = absurd (omega arith)
   on_next zero t counted (inr (zero, s, next, at, after)) = let start = began (passage 0 0) s at in after ∙ ap (λ n. n + 1626) start
-  on_next zero t counted (inr (suc before, s, next, at, after)) = absurd (omega arith)
+  on_next zero t counted (inr (suc before, s, next, at, after)) =
+      let is = follow 0 (suc before) 1 (omega arith) (began_hop (passage 0 (suc before)) s at) (omega arith) next in absurd (omega (arith, is.0))
   on_next (suc zero) t counted (inl (hop, at)) = absurd (omega arith)
   on_next (suc zero) t counted (inr (zero, s, next, at, after)) = let start = began (passage 1 0) s at in after ∙ ap (λ n. n + 1626) start
-  on_next (suc zero) t counted (inr (suc before, s, next, at, after)) = absurd (omega arith)
+  on_next (suc zero) t counted (inr (suc before, s, next, at, after)) =
+      let is = follow 1 (suc before) 1 (omega arith) (began_hop (passage 1 (suc before)) s at) (omega arith) next in absurd (omega (arith, is.0))
   on_next (suc (suc stream)) t counted ready = absurd (omega arith)
 
   ready_next : (stream : ℕ) → stream < 2 → IsReady small_network at_once run (passage stream 1) 1626

@@ -1,26 +1,29 @@
 -- A step of a replay keeps its state.
-use Rattle.std.proofs.Common.{◌≡◌, ℕ, ◌+◌, ◌*◌, ◌≤◌, ◌<◌, ◌^◌, ◌-◌, List, [], length, get_or, slice_set, max, Option, Some, None, Vec, Global, All, sum_by, refl, sym, ap, ◌∙◌, subst, arith, inl, inr, mul-le-mul, mul-pos}
+use Rattle.std.proofs.Common.{◌≡◌, ℕ, ◌+◌, ◌*◌, ◌≤◌, ◌<◌, ◌⊎◌, ◌^◌, ◌-◌, List, [], length, get_or, slice_set, max, Option, Some, None, Vec, Global, All, sum_by, refl, sym, ap, ◌∙◌, subst, arith, inl, inr, mul-le-mul, mul-pos}
 use Rattle.std.proofs.Math.Nat.{max-le, le-max_left, le-min}
 use Rattle.std.proofs.lemmas.Bool.{cases_lt, cases_eq}
 use Rattle.std.proofs.lemmas.List.{get_or_default, get_or-set_same, get_or-set_other, length-set}
 use Rattle.std.proofs.lemmas.List.Elements.{All-set}
-use Rattle.tsn_model.specs.Network.{Network, link_at, stream_count, hop_count}
+use Rattle.tsn_model.specs.Network.{Network, link_at, stream_count, route_of, hop_count, route_link, Continues}
 use Rattle.tsn_model.specs.Timing.{occupancy}
-use Rattle.tsn_model.specs.Bridge.{LinkGates, BridgeRun, IsBridgeRun, IsFed}
+use Rattle.tsn_model.specs.Bridge.{LinkGates, Passage, BridgeRun, IsBridgeRun, IsFed}
 use Rattle.tsn_model.specs.Early.{IsEarlyRun}
 use Rattle.tsn_gate.specs.declared.queue.Frame.{Frame}
 use Rattle.tsn_gate.specs.declared.feed.Waiting.{Waiting}
 use Rattle.tsn_gate.specs.declared.feed.Feed.{Feed}
 use Rattle.tsn_gate.specs.declared.port.Port.{Port}
 use Rattle.tsn_gate.specs.declared.engine.State.{State}
-use Rattle.tsn_gate.specs.Queue.{Waits, AreInLine, Next, CanStart, IsNextOf, frame_in, passage_of, free_on}
+use Rattle.tsn_gate.specs.declared.queue.Stage.TheVariants.{Queued}
+use Rattle.tsn_gate.specs.Queue.{Waits, AreInLine, IsOneVisit, Next, CanStart, IsNextOf, frame_in, passage_of, free_on}
 use Rattle.tsn_gate.specs.Feeding.{waiting_on, IsFeedOf, IsSent}
 use Rattle.tsn_gate.specs.Ports.{IsPort, IsScheduledNext, IsFirstPort, port_time, port_in}
 use Rattle.tsn_gate.specs.Records.{IsRecord, noted}
-use Rattle.tsn_gate.specs.Progress.{Plan, HasTurn, turn_of, IsRunSoFar, IsFedSoFar, IsTracked, Setting, IsSetting, IsUnderWay, IsPortAt, IsState, AreStarts, advanced}
-use Rattle.tsn_gate.proofs.PassageStarts.{with_passage, turned, onward}
+use Rattle.tsn_gate.specs.Progress.{Plan, AreMoved, IsOnward, IsRunSoFar, IsFedSoFar, IsTracked, Setting, IsSetting, IsUnderWay, IsPortAt, IsState, AreStarts, arrived}
+use Rattle.tsn_gate.proofs.PassageStarts.{with_passage}
+use Rattle.tsn_gate.proofs.Advances.{turns_after}
+use Rattle.tsn_gate.proofs.Moved.{moved_cases, gone_stage, same_passage}
 use Rattle.tsn_gate.proofs.BackgroundStarts.{with_background}
-use Rattle.tsn_gate.proofs.InLine.{line_kept, sooner_ready}
+use Rattle.tsn_gate.proofs.InLine.{come_coming, sooner_ready}
 use Rattle.tsn_gate.proofs.Nexts.{time_facts, none_next, next_scheduled, next_background}
 use Rattle.tsn_gate.proofs.Ports.{scheduled_later, port_later, port_kept}
 use Rattle.tsn_gate.proofs.Records.{record_started, record_sent}
@@ -141,7 +144,9 @@ module _ (setting : Setting) (state : State) (can : IsSetting setting) (is : IsS
       in_time = omega arith
 
       can_start_here : CanStart network setting.gates state.frames.items line next (Some waiting)
-      can_start_here = grind (arith, can_start, is_next, in_time)
+      can_start_here = can_start network can.formed can.spaced plan setting.gates can.lists setting.cycles setting.background can.background
+          line state.time state.free.items made state.frames.items is.under_way.run is.under_way.fed is.under_way.tracked
+          next is_next in_time waiting refl
 
       pub waiting_below : waiting < length state.frames.items
       waiting_below = can_start_here.0.0
@@ -150,24 +155,31 @@ module _ (setting : Setting) (state : State) (can : IsSetting setting) (is : IsS
       waits_here = can_start_here.0.1
 
       pub stream_below : (frame_in state.frames.items waiting).stream < stream_count network
-      stream_below = (is.under_way.tracked.each waiting waiting_below).stream
+      unfolding passage_of
+      stream_below = (is.under_way.tracked.each waiting waiting_below).passage.stream
 
-      -- a frame of its stream that is one hop further is ready before it can be
-      pub sooner_here : (a : ℕ) → a < length state.frames.items → (frame_in state.frames.items a).stream ≡ (frame_in state.frames.items waiting).stream
-          → (frame_in state.frames.items a).hop ≡ (frame_in state.frames.items waiting).hop + 1
-          → (frame_in state.frames.items waiting).hop + 1 < hop_count network (frame_in state.frames.items waiting).stream
-          → (frame_in state.frames.items a).ready < (advanced network (frame_in state.frames.items waiting) time).ready
+      pub hop_below : (frame_in state.frames.items waiting).hop < hop_count network (frame_in state.frames.items waiting).stream
+      hop_below = is.under_way.line.hop waiting waiting_below
+
+      -- a frame that waits before this one on a hop that continues this one is ready before it can be
+      pub sooner_here : (a other : ℕ) → a < length state.frames.items → other < length state.frames.items
+          → IsOnward network (passage_of (frame_in state.frames.items waiting)) (passage_of (frame_in state.frames.items other))
+          → IsOneVisit (frame_in state.frames.items a) (frame_in state.frames.items other) → (frame_in state.frames.items a).stage ≡ Queued
+          → (frame_in state.frames.items a).ready < (arrived network (frame_in state.frames.items waiting) time
+          (frame_in state.frames.items other)).ready
       sooner_here = sooner_ready network can.formed plan setting.gates setting.cycles
-          (free_on state.free.items) state.time made is.under_way.run state.frames.items is.under_way.tracked is.under_way.line link waiting time can_start_here.0 (is_next.wire in_time)
+          (free_on state.free.items) state.time made is.under_way.run state.frames.items is.under_way.tracked
+          is.under_way.line link waiting time can_start_here.0 (is_next.wire in_time)
 
       pub forward : state.time ≤ time
       forward = is_next.forward
 
       -- what the step computes
       module _ (frame : Frame) (frame_is : frame ≡ frame_in state.frames.items waiting) (duration : ℕ) (duration_is : duration ≡ occupancy network frame.stream link) (some : 1 ≤ duration) (short : duration ≤ 1233600)
-          (moved : Frame) (has : HasTurn network setting.slack state.frames.items waiting (advanced network (frame_in state.frames.items waiting) time)
-          (time + 1) moved) (early : moved.ready ≤ 2 ^ 50)
-          (trace : BridgeRun) (trace_is : trace ≡ with_passage state.starts (passage_of frame) time) (frames : Vec Frame Global) (frames_are : frames.items ≡ slice_set state.frames.items waiting moved)
+          (moved : List Frame) (are : AreMoved network setting.slack state.frames.items waiting time moved)
+          (early : All (λ (f : Frame). f.ready ≤ 2 ^ 50) moved)
+          (trace : BridgeRun) (trace_is : trace ≡ with_passage state.starts (passage_of frame) time)
+          (frames : Vec Frame Global) (frames_are : frames.items ≡ moved)
           (free : Vec ℕ Global) (free_is : free.items ≡ slice_set state.free.items link (time + duration)) where
         abbrev started : State
         started = record state { time = time; frames = frames; free = free; starts = trace }
@@ -175,11 +187,11 @@ module _ (setting : Setting) (state : State) (can : IsSetting setting) (is : IsS
         pub started_under_way : IsUnderWay setting started
         started_under_way =
             let run = with_passage made (passage_of frame) time in
-            let turns = turned is.under_way.turn (onward (passage_of (frame_in state.frames.items waiting))) (turn_of moved) in
+            let turns = turns_after network plan setting.cycles state.frames.items moved waiting in
             let after : Plan = record { offsets = setting.offsets; slack = setting.slack; turn = turns } in
             let step = passage_step network can.formed can.spaced plan setting.gates can.lists setting.cycles setting.background can.background
             line state.time state.free.items made state.frames.items is.under_way.run is.under_way.fed is.under_way.tracked
-            next is_next in_time waiting refl frame frame_is run refl duration duration_is moved has is.under_way.wires in
+            next is_next in_time waiting refl frame frame_is run refl duration duration_is moved are is.under_way.line is.under_way.wires in
             record {
               end = is.under_way.end;
               time = omega arith;
@@ -190,24 +202,85 @@ module _ (setting : Setting) (state : State) (can : IsSetting setting) (is : IsS
               run = subst (λ fs. IsRunSoFar network after setting.gates setting.cycles (free_on fs) time run) (sym free_is) step.0;
               fed = subst (λ fs. IsFedSoFar network setting.gates setting.cycles (free_on fs) time setting.background line run) (sym free_is) step.1;
               tracked = subst (IsTracked network after setting.cycles run) (sym frames_are) step.2;
-              line = subst (AreInLine network setting.cycles) (sym frames_are)
-                  (line_kept network can.formed plan setting.gates setting.cycles
-                  (free_on state.free.items) state.time made is.under_way.run state.frames.items is.under_way.tracked is.under_way.line link waiting time can_start_here.0 (is_next.wire in_time) moved has);
+              line = subst (AreInLine network setting.cycles) (sym frames_are) step.3;
               feed = is.under_way.feed;
               wires = ap length free_is ∙ (length-set state.free.items link (time + duration) ∙ is.under_way.wires);
               numbers = is.under_way.numbers;
               visits = is.under_way.visits;
               frees = subst (All (λ t. t ≤ 2 ^ 40)) (sym free_is) (All-set (λ t. t ≤ 2 ^ 40) state.free.items link (time + duration) (omega arith) is.under_way.frees);
-              readies = subst (All (λ (f : Frame). f.ready ≤ 2 ^ 50)) (sym frames_are) (All-set (λ (f : Frame). f.ready ≤ 2 ^ 50) state.frames.items waiting moved early is.under_way.readies);
+              readies = subst (All (λ (f : Frame). f.ready ≤ 2 ^ 50)) (sym frames_are) early;
             }
 
-        pub started_others : (other : ℕ) → other < length setting.gates → (number ≡ other → ⊥) → ((d : LinkGates) → Waits network (get_or setting.gates other d).link moved → ⊥)
+        abbrev cases : (p : ℕ) → (waiting ≡ p)
+            ⊎ IsOnward network (passage_of (frame_in state.frames.items waiting)) (passage_of (frame_in state.frames.items p))
+            ⊎ (frame_in moved p ≡ frame_in state.frames.items p)
+        cases = moved_cases network setting.slack state.frames.items waiting time moved are
+
+        -- no hop that continues this one is on the link
+        silent : (at : ℕ) → ((hop : ℕ) → hop < hop_count network frame.stream
+            → Continues network (route_of network frame.stream) frame.hop hop → at ≡ route_link network frame.stream hop → ⊥)
+            → (p : ℕ) → p < length state.frames.items
+            → IsOnward network (passage_of (frame_in state.frames.items waiting)) (passage_of (frame_in state.frames.items p))
+            → route_link network (frame_in state.frames.items p).stream (frame_in state.frames.items p).hop ≡ at → ⊥
+        unfolding passage_of
+        silent at none p inside is on =
+            let stream : (frame_in state.frames.items p).stream ≡ frame.stream =
+            ap (λ (x : Passage). x.stream) is.same ∙ sym (ap (λ (f : Frame). f.stream) frame_is) in
+            let hop : (frame_in state.frames.items waiting).hop ≡ frame.hop = sym (ap (λ (f : Frame). f.hop) frame_is) in
+            let of : (frame_in state.frames.items waiting).stream ≡ frame.stream = sym (ap (λ (f : Frame). f.stream) frame_is) in
+            none (frame_in state.frames.items p).hop (subst (λ i. (frame_in state.frames.items p).hop < hop_count network i) of is.inside)
+            (subst (λ k. Continues network (route_of network frame.stream) k (frame_in state.frames.items p).hop) hop
+            (subst (λ i. Continues network (route_of network i) (frame_in state.frames.items waiting).hop
+            (frame_in state.frames.items p).hop) of is.continues))
+            (sym on ∙ ap (λ i. route_link network i (frame_in state.frames.items p).hop) stream)
+
+        -- what waits there stays, and was there
+        same_frame : (at : ℕ) → (at ≡ link → ⊥) → (p : ℕ) → p < length state.frames.items
+            → Waits network at (frame_in state.frames.items p) → frame_in moved p ≡ frame_in state.frames.items p
+        same_frame at away p inside waits = elim (cases p) [
+          | inl same ↦ absurd (away
+              (sym waits.on ∙ (sym (ap (λ n. route_link network (frame_in state.frames.items n).stream (frame_in state.frames.items n).hop)
+              same) ∙ waits_here.on)))
+          | inr not_here ↦ elim not_here [
+            | inl onward ↦
+                let coming = come_coming network can.formed plan setting.gates setting.cycles
+                (free_on state.free.items) state.time made is.under_way.run state.frames.items is.under_way.tracked
+                is.under_way.line link waiting time can_start_here.0 (is_next.wire in_time) p inside onward in
+                let queued = waits.waits in
+                absurd cc
+            | inr kept ↦ kept
+          ]
+        ]
+
+        waited_frame : (at : ℕ) → (at ≡ link → ⊥)
+            → ((p : ℕ) → p < length state.frames.items
+            → IsOnward network (passage_of (frame_in state.frames.items waiting)) (passage_of (frame_in state.frames.items p))
+            → route_link network (frame_in state.frames.items p).stream (frame_in state.frames.items p).hop ≡ at → ⊥)
+            → (p : ℕ) → p < length state.frames.items → Waits network at (frame_in moved p)
+            → Waits network at (frame_in state.frames.items p)
+        unfolding passage_of
+        waited_frame at away silent_on p inside waits = elim (cases p) [
+          | inl same ↦ let gone = gone_stage network setting.slack state.frames.items waiting time moved are p same in
+              let queued = waits.waits in absurd cc
+          | inr not_here ↦ elim not_here [
+            | inl onward ↦
+                let passage = same_passage network setting.slack state.frames.items waiting time moved are p inside in
+                absurd (silent_on p inside onward (ap (λ (x : Passage). route_link network x.stream x.hop) (sym passage) ∙ waits.on))
+            | inr kept ↦ subst (Waits network at) kept waits
+          ]
+        ]
+
+        pub started_others : (other : ℕ) → other < length setting.gates → (number ≡ other → ⊥)
+            → ((hop : ℕ) (d : LinkGates) → hop < hop_count network frame.stream
+            → Continues network (route_of network frame.stream) frame.hop hop
+            → (get_or setting.gates other d).link ≡ route_link network frame.stream hop → ⊥)
             → IsPortAt setting started other (port_at other)
-        started_others other other_below differ silent d =
+        started_others other other_below differ none d =
             let at = (get_or setting.gates other d).link in
             let away = apart other d other_below differ in
-            let not_old : Waits network at (frame_in state.frames.items waiting) → ⊥ = λ waits. away (sym waits.on ∙ waits_here.on) in
-            let kept = port_kept network state.frames.items at waiting moved waiting_below not_old (silent d) (get_or setting.gates other d).entries (line at) (max (free_on state.free.items at) state.time) state.end (port_at other)
+            let kept = port_kept network state.frames.items moved at are.count (same_frame at away)
+            (waited_frame at away (silent at (λ hop below continues same. none hop d below continues same)))
+            (get_or setting.gates other d).entries (line at) (max (free_on state.free.items at) state.time) state.end (port_at other)
             (is.ports.each other other_below d) in
             let soon = least other other_below in
             other_later time other d frames.items free.items state.feed forward (omega arith) (ap (λ fs. free_on fs at) free_is ∙ get_or-set_other state.free.items link at (time + duration) 0 away) refl

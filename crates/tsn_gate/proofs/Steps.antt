@@ -16,17 +16,19 @@ use Rattle.tsn_model.specs.Bridge.Background.{nothing, greedy, frames as listed}
 use Rattle.tsn_gate.specs.declared.queue.Frame.{Frame}
 use Rattle.tsn_gate.specs.declared.feed.Waiting.{Waiting}
 use Rattle.tsn_gate.specs.Openings.{HasLists, HasBackground}
-use Rattle.tsn_gate.specs.Queue.{IsSilent, Next, CanStart, IsNextOf, frame_in, passage_of, free_on}
+use Rattle.tsn_gate.specs.Queue.{IsSilent, Next, CanStart, IsNextOf, AreInLine, frame_in, passage_of, free_on}
+use Rattle.tsn_gate.specs.declared.queue.Stage.TheVariants.{Coming}
 use Rattle.tsn_gate.specs.Frames.{AreSpaced}
-use Rattle.tsn_gate.specs.Progress.{Turn, Plan, IsTurn, HasTurn, with_turns, turn_of, IsRunSoFar, IsFedSoFar, IsFrame, IsTracked, IsQuiet, IsDue, IsBackgroundDue, IsListSoFar, advanced}
+use Rattle.tsn_gate.specs.Progress.{Turn, Plan, IsTurn, AreMoved, IsOnward, with_turns, IsRunSoFar, IsFedSoFar, IsFrame, IsTracked, IsQuiet, IsDue, IsBackgroundDue, IsListSoFar}
 use Rattle.tsn_gate.specs.Feeding.{waiting_at, no_start, greatest_on, IsOfList, IsLine, IsFirstOn, IsSent}
 use Rattle.tsn_gate.proofs.Progress.{Extends, time_passes, greedy_passes, run_ends, greedy_ends}
-use Rattle.tsn_gate.proofs.PassageStarts.{with_passage, turned, onward, passage_begins, passage_extends, passage_greedy}
+use Rattle.tsn_gate.proofs.PassageStarts.{with_passage, passage_begins, passage_extends, passage_greedy}
 use Rattle.tsn_gate.proofs.BackgroundStarts.{with_background, background_begins, background_extends, background_greedy}
 use Rattle.tsn_gate.proofs.Lines.{list_passes, list_kept, list_sent, line_other, line_sent, list_ends}
 use Rattle.tsn_gate.proofs.Nexts.{waiting_link}
 use Rattle.tsn_gate.proofs.Tracking.{quiet_from_silent, due_from_head, exact_ends}
-use Rattle.tsn_gate.proofs.Advances.{tracked_next}
+use Rattle.tsn_gate.proofs.Advances.{next_turns, turns_after, next_is_turn, next_is_later, tracked_next}
+use Rattle.tsn_gate.proofs.InLine.{line_kept}
 
 -- a frame that waits is one that was handed in
 pub record IsGiven (network : Network) (link : ℕ) (waiting : Waiting) : Type 0 where
@@ -59,12 +61,6 @@ line_given network gates cycles free now line run (listed list) given fed link e
 length_at : (network : Network) (frame : Frame) → occupancy network frame.stream (link_of network (passage_of frame)) ≡ length_of network (passage_of frame)
 unfolding length_of link_of passage_of
 length_at network frame = refl
-
-turn_at : (network : Network) (slack : ℕ) (frame : Frame) (time : ℕ) (turn : Turn) → IsTurn slack (advanced network frame time).ready frame.stream turn
-    → IsTurn slack (time + hop_delay network (passage_of frame).stream (route_link network (passage_of frame).stream (passage_of frame).hop))
-    (passage_of frame).stream turn
-unfolding passage_of
-turn_at network slack frame time turn is = is
 
 module _ (network : Network) (formed : IsWellFormed network) (spaced : AreSpaced network) (plan : Plan) (gates : List LinkGates)
     (lists : HasLists network gates) (cycles : ℕ) (background : Background) (given : HasBackground network gates background) (line : ℕ → Option Waiting)
@@ -155,18 +151,25 @@ module _ (network : Network) (formed : IsWellFormed network) (spaced : AreSpaced
       on = waiting_link network next.link (frame_in frames number) can_start.0.1
 
       module _ (until : ℕ) (until_is : until ≡ next.time + length_of network (passage_of (frame_in frames number))) (wires : length free ≡ length network.links)
-          (moved : Frame) (has : HasTurn network plan.slack frames number (advanced network (frame_in frames number) next.time) (next.time + 1) moved) where
-        -- the turns with that of the frame on its next hop
+          (moved : List Frame) (are : AreMoved network plan.slack frames number next.time moved)
+          (in_line : AreInLine network cycles frames) where
+        -- the turns with those of the frame on its next hops
         abbrev turns : Passage → Turn
-        turns = turned plan.turn (onward (passage_of (frame_in frames number))) (turn_of moved)
+        turns = turns_after network plan cycles frames moved number
 
-        next_turn : IsTurn plan.slack (next.time + hop_delay network (passage_of (frame_in frames number)).stream
+        abbrev next_turn : Passage → Turn
+        next_turn = next_turns network cycles frames moved number
+
+        next_is : (q : Passage) → IsOnward network (passage_of (frame_in frames number)) q
+            → IsTurn plan.slack (next.time + hop_delay network (passage_of (frame_in frames number)).stream
             (route_link network (passage_of (frame_in frames number)).stream (passage_of (frame_in frames number)).hop))
-            (passage_of (frame_in frames number)).stream (turn_of moved)
-        next_turn = turn_at network plan.slack (frame_in frames number) next.time (turn_of moved) has.turn
+            (passage_of (frame_in frames number)).stream (next_turn q)
+        next_is = next_is_turn network formed plan gates cycles
+            (free_on free) next.time run here_so_far frames moved tracked in_line number can_start.0.0 due_at due are
 
-        later_turn : next.time < moved.ready
-        later_turn = let least = has.least in omega arith
+        later_turn : (q : Passage) → IsOnward network (passage_of (frame_in frames number)) q → next.time < (next_turn q).ready
+        later_turn = next_is_later network formed plan gates cycles
+            (free_on free) next.time run here_so_far frames moved tracked in_line number can_start.0.0 due_at due are
 
         set_here : free_on (slice_set free next.link until) (link_of network (passage_of (frame_in frames number))) ≡ next.time + length_of network (passage_of (frame_in frames number))
         set_here = grind (arith, on, get_or-set_same)
@@ -176,8 +179,9 @@ module _ (network : Network) (formed : IsWellFormed network) (spaced : AreSpaced
 
         pub passage_run : IsRunSoFar network (with_turns plan turns) gates cycles (free_on (slice_set free next.link until)) next.time
             (with_passage run (passage_of (frame_in frames number)) next.time)
-        passage_run = passage_begins network formed plan gates cycles (free_on free) (free_on (slice_set free next.link until)) next.time run here_so_far
-            (passage_of (frame_in frames number)) due_at due (turn_of moved) next_turn later_turn set_here set_elsewhere
+        passage_run = passage_begins network formed plan gates cycles (free_on free)
+            (free_on (slice_set free next.link until)) next.time run here_so_far
+            (passage_of (frame_in frames number)) due_at due next_turn next_is later_turn set_here set_elsewhere
 
         passage_busy : (m t : ℕ) → next.time ≤ t → t < free_on (slice_set free next.link until) m → IsTaken network (with_passage run (passage_of (frame_in frames number)) next.time) m t
         passage_busy = passage_run.busy
@@ -186,15 +190,17 @@ module _ (network : Network) (formed : IsWellFormed network) (spaced : AreSpaced
             → IsFedSoFar network gates cycles (free_on (slice_set free next.link until)) next.time b line (with_passage run (passage_of (frame_in frames number)) next.time)
         fed_passage nothing before = before
         fed_passage greedy (before, always) = (
-          passage_greedy network formed plan gates cycles (free_on free) (free_on (slice_set free next.link until)) next.time run here_so_far
-              (passage_of (frame_in frames number)) due_at due (turn_of moved) next_turn later_turn set_here set_elsewhere before,
+          passage_greedy network formed plan gates cycles (free_on free)
+              (free_on (slice_set free next.link until)) next.time run here_so_far
+              (passage_of (frame_in frames number)) due_at due next_turn next_is later_turn set_here set_elsewhere before,
           always,
         )
         fed_passage (listed list) (before, lines) = (
           list_kept network formed plan gates cycles (free_on free) next.time run here_so_far
               (with_passage run (passage_of (frame_in frames number)) next.time) (free_on (slice_set free next.link until))
-              (passage_extends network formed plan gates cycles (free_on free) (free_on (slice_set free next.link until)) next.time run here_so_far
-              (passage_of (frame_in frames number)) due_at due (turn_of moved) next_turn later_turn set_here set_elsewhere)
+              (passage_extends network formed plan gates cycles (free_on free)
+              (free_on (slice_set free next.link until)) next.time run here_so_far
+              (passage_of (frame_in frames number)) due_at due next_turn next_is later_turn set_here set_elsewhere)
               passage_busy list before refl,
           lines,
         )
@@ -202,11 +208,15 @@ module _ (network : Network) (formed : IsWellFormed network) (spaced : AreSpaced
         pub passage_fed : IsFedSoFar network gates cycles (free_on (slice_set free next.link until)) next.time background line (with_passage run (passage_of (frame_in frames number)) next.time)
         passage_fed = fed_passage background here_fed
 
-        pub passage_tracked : IsTracked network (with_turns plan turns) cycles (with_passage run (passage_of (frame_in frames number)) next.time)
-            (slice_set frames number moved)
-        passage_tracked = subst (λ f. IsTracked network (with_turns plan turns) cycles (with_passage run (passage_of (frame_in frames number)) next.time)
-            (slice_set frames number f)) (sym has.is)
-            (tracked_next network plan cycles run frames tracked number next.time can_start.0.0 can_start.0.1.waits (turn_of moved))
+        pub passage_tracked : IsTracked network (with_turns plan turns) cycles
+            (with_passage run (passage_of (frame_in frames number)) next.time) moved
+        passage_tracked = tracked_next network formed plan gates cycles
+            (free_on free) next.time run here_so_far frames moved tracked in_line number can_start.0.0 due_at due are
+
+        pub passage_line : AreInLine network cycles moved
+        passage_line = line_kept network formed plan gates cycles
+            (free_on free) next.time run here_so_far frames tracked in_line next.link number next.time can_start.0
+            (is.wire in_time) moved are
 
       pub length_is : (duration : ℕ) → duration ≡ occupancy network (frame_in frames number).stream next.link
           → next.time + duration ≡ next.time + length_of network (passage_of (frame_in frames number))
@@ -215,26 +225,27 @@ module _ (network : Network) (formed : IsWellFormed network) (spaced : AreSpaced
       -- the state after it, from what the program computed
       pub passage_step : (frame : Frame) → frame ≡ frame_in frames number → (trace : BridgeRun) → trace ≡ with_passage run (passage_of frame) next.time
           → (duration : ℕ) → duration ≡ occupancy network frame.stream next.link
-          → (moved : Frame) → HasTurn network plan.slack frames number (advanced network (frame_in frames number) next.time) (next.time + 1) moved
+          → (moved : List Frame) → AreMoved network plan.slack frames number next.time moved → AreInLine network cycles frames
           → length free ≡ length network.links
-          → IsRunSoFar network (with_turns plan (turned plan.turn (onward (passage_of (frame_in frames number))) (turn_of moved))) gates cycles
+          → IsRunSoFar network (with_turns plan (turns_after network plan cycles frames moved number)) gates cycles
           (free_on (slice_set free next.link (next.time + duration))) next.time trace
           × IsFedSoFar network gates cycles (free_on (slice_set free next.link (next.time + duration))) next.time background line trace
-          × IsTracked network (with_turns plan (turned plan.turn (onward (passage_of (frame_in frames number))) (turn_of moved))) cycles trace
-          (slice_set frames number moved)
-      passage_step frame same trace trace_is duration is_duration moved has wires =
+          × IsTracked network (with_turns plan (turns_after network plan cycles frames moved number)) cycles trace moved
+          × AreInLine network cycles moved
+      passage_step frame same trace trace_is duration is_duration moved are in_line wires =
           let duration_at : duration ≡ occupancy network (frame_in frames number).stream next.link = is_duration ∙ ap
           (λ (f : Frame). occupancy network f.stream next.link) same in
           let until = length_is duration duration_at in
-          let after = with_turns plan (turned plan.turn (onward (passage_of (frame_in frames number))) (turn_of moved)) in
-          let run_is : trace ≡ with_passage run (passage_of (frame_in frames number)) next.time = trace_is
-          ∙ ap (λ (f : Frame). with_passage run (passage_of f) next.time) same in (
-            subst (IsRunSoFar network after gates cycles (free_on (slice_set free next.link (next.time + duration))) next.time) (sym run_is)
-                (passage_run (next.time + duration) until wires moved has),
-            subst (IsFedSoFar network gates cycles (free_on (slice_set free next.link (next.time + duration))) next.time background line) (sym run_is)
-                (passage_fed (next.time + duration) until wires moved has),
-            subst (λ r. IsTracked network after cycles r (slice_set frames number moved)) (sym run_is)
-                (passage_tracked (next.time + duration) until wires moved has),
+          let after = with_turns plan (turns_after network plan cycles frames moved number) in
+          let run_is : trace ≡ with_passage run (passage_of (frame_in frames number)) next.time =
+          trace_is ∙ ap (λ (f : Frame). with_passage run (passage_of f) next.time) same in (
+            subst (IsRunSoFar network after gates cycles (free_on (slice_set free next.link (next.time + duration))) next.time)
+                (sym run_is) (passage_run (next.time + duration) until wires moved are in_line),
+            subst (IsFedSoFar network gates cycles (free_on (slice_set free next.link (next.time + duration))) next.time background line)
+                (sym run_is) (passage_fed (next.time + duration) until wires moved are in_line),
+            subst (λ r. IsTracked network after cycles r moved) (sym run_is)
+                (passage_tracked (next.time + duration) until wires moved are in_line),
+            passage_line (next.time + duration) until wires moved are in_line,
           )
 
     -- a background frame
@@ -342,8 +353,9 @@ no_fed network gates cycles free empty (listed list) line first = (no_list netwo
 
 pub read_frame : (frames : List Frame) (number : ℕ) (frame : Frame) → number < length frames → frame ≡ get_or frames number frame → frame ≡ frame_in frames number
 unfolding frame_in
-read_frame frames number frame below is = is ∙ get_or_default frames number frame
-    (record { stream = 0; shift = 0; cycle = 0; hop = 0; ready = 0; rank = 0 }) below
+read_frame frames number frame below is =
+    is ∙ get_or_default frames number frame
+    (record { stream = 0; hop = 0; shift = 0; cycle = 0; stage = Coming; ready = 0; rank = 0 }) below
 
 still_frame : (network : Network) (plan : Plan) (cycles : ℕ) (run : BridgeRun) (frame : Frame) (begun : BackgroundStart)
     → IsFrame network plan cycles run frame → IsFrame network plan cycles (with_background run begun) frame

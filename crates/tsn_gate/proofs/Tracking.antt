@@ -5,18 +5,21 @@ use Rattle.std.proofs.lemmas.Bool.{cases_lt, cases_eq, cases_order}
 use Rattle.std.proofs.lemmas.List.{get_or_default, length-append}
 use Rattle.std.proofs.Math.ListN.{get_or-map, length-map, get_or-append}
 use Rattle.std.proofs.lemmas.List.Elements.{All-contains, Contains-append_left}
-use Rattle.tsn_model.specs.Network.{Network, IsWellFormed, hop_count, route_link}
+use Rattle.tsn_model.specs.Network.{Network, IsWellFormed, IsRoute, route_of, hop_count, route_link, IsSent, Continues}
 use Rattle.tsn_model.specs.Timing.{hop_delay}
 use Rattle.tsn_model.specs.Schedule.{offset_of}
 use Rattle.tsn_model.specs.Bridge.{LinkGates, Passage, ScheduledStart, BridgeRun, WireUse, link_of, length_of, scheduled_use, background_use, wire_uses, AreDisjoint, IsPassage, StartedAt, NotStartedBefore, IsReady, FitsAt, IsBlocked, IsBridgeRun}
 use Rattle.tsn_model.proofs.Limits.{occupancy-ge}
-use Rattle.tsn_model.proofs.Hops.{hop_once, same_cycle, link_exists, passage_cases}
+use Rattle.tsn_model.proofs.Hops.{hop_once, same_cycle, link_exists, passage_cases, route_formed}
+use Rattle.tsn_model.proofs.Branches.{continued_once, sent_alone}
 use Rattle.tsn_model.proofs.Lists.{Contains-map}
 use Rattle.tsn_gate.specs.declared.queue.Frame.{Frame}
+use Rattle.tsn_gate.specs.declared.queue.Stage.TheVariants.{Queued}
 use Rattle.tsn_gate.specs.Queue.{Waits, IsHead, IsSilent, frame_in, passage_of}
 use Rattle.tsn_gate.specs.Progress.{Turn, Goes, Plan, IsHeldUp, IsRunSoFar, IsTracked, IsDue, IsQuiet, turn_of}
 use Rattle.tsn_gate.specs.Frames.{AreSpaced}
 use Rattle.tsn_gate.proofs.Nexts.{waiting_link}
+use Rattle.tsn_gate.proofs.Stages.{stage_cases}
 
 -- two elements at different numbers of the first of two lists
 pairs_apart : {X Y : Type 0} (R : Y → Y → Type 0) (f : X → Y) (xs : List X) (ys : List Y) (d : X) (i j : ℕ) → AllPairs R (map f xs ++ ys) → i < j → j < length xs → R (f (get_or xs i d)) (f (get_or xs j d))
@@ -36,16 +39,14 @@ together network p q s same p_long q_long (inr apart) = apart (sym same) s (omeg
 
 module _ (network : Network) (formed : IsWellFormed network) (plan : Plan) (gates : List LinkGates) (cycles : ℕ) (free : ℕ → ℕ) (now : ℕ) (run : BridgeRun)
     (spaced : AreSpaced network) (so_far : IsRunSoFar network plan gates cycles free now run) where
-  pub ready_once : (q : Passage) (a b : ℕ) → IsReady network plan.offsets run q a → IsReady network plan.offsets run q b → a ≡ b
-  ready_once q a b (inl (first, at_a)) (inl (first_too, at_b)) = omega arith
-  ready_once q a b (inl (first, at_a)) (inr (before, s, next, started, after)) = absurd (omega arith)
-  ready_once q a b (inr (before, s, next, started, after)) (inl (first, at_b)) = absurd (omega arith)
-  ready_once q a b (inr (before, s, next, started, after)) (inr (before_too, t, next_too, started_too, after_too)) =
-      let same : before_too ≡ before = omega arith in
-      let one = so_far.once (record q { hop = before }) s t started (subst (λ k. StartedAt run (record q { hop = k }) t) same started_too) in
-      let delay : hop_delay network q.stream (route_link network q.stream before_too) ≡ hop_delay network q.stream (route_link network q.stream before) =
-      ap (λ k. hop_delay network q.stream (route_link network q.stream k)) same in
-      omega arith
+  -- a passage that started is one
+  begun_passage : (q : Passage) (s : ℕ) → StartedAt run q s → IsPassage network cycles q
+  begun_passage q s at =
+      All-contains (λ (begun : ScheduledStart). IsPassage network cycles begun.passage) run.scheduled
+      (record { passage = q; time = s }) so_far.passages at
+
+  route_is : (q : Passage) → IsPassage network cycles q → IsRoute network (route_of network q.stream)
+  route_is q passage = route_formed network formed q.stream passage.stream
 
   -- two starts on one link are not at one instant
   starts_apart : (p q : Passage) (s : ℕ) → StartedAt run p s → StartedAt run q s → link_of network p ≡ link_of network q → 1 ≤ length_of network p → 1 ≤ length_of network q → (p ≡ q → ⊥) → ⊥
@@ -90,18 +91,31 @@ module _ (network : Network) (formed : IsWellFormed network) (plan : Plan) (gate
       (spaced.within q.stream q.shift q_passage.stream q_passage.sent) (omega arith) in
       let begun : p.cycle * network.cycle ≡ q.cycle * network.cycle = ap (λ n. n * network.cycle) cycle in
       (cycle, omega arith)
-  one_cycle p q t passage q_passage link stream hop (inl (first, at)) (inr (before, s, next, started, after)) = absurd (omega arith)
-  one_cycle p q t passage q_passage link stream hop (inr (before, s, next, started, after)) (inl (first, at)) = absurd (omega arith)
+  one_cycle p q t passage q_passage link stream hop (inl (first, at)) (inr (before, s, next, started, after)) =
+      let begun = begun_passage (record q { hop = before }) s started in
+      absurd (sent_alone network (route_of network q.stream) (route_is q q_passage) before q.hop begun.hop next
+      (subst (IsSent network (route_of network q.stream)) hop (subst (λ i. IsSent network (route_of network i) p.hop) stream first)))
+  one_cycle p q t passage q_passage link stream hop (inr (before, s, next, started, after)) (inl (first, at)) =
+      let begun = begun_passage (record p { hop = before }) s started in
+      absurd (sent_alone network (route_of network p.stream) (route_is p passage) before p.hop begun.hop next
+      (subst (IsSent network (route_of network p.stream)) (sym hop)
+      (subst (λ i. IsSent network (route_of network i) q.hop) (sym stream) first)))
   one_cycle p q t passage q_passage link stream hop (inr (before, s, next, started, after)) (inr (before_too, u, next_too, started_too, after_too)) =
-      let same : before ≡ before_too = omega arith in
+      let p_passage = begun_passage (record p { hop = before }) s started in
+      let u_passage = begun_passage (record q { hop = before_too }) u started_too in
+      let next_here : Continues network (route_of network q.stream) before q.hop =
+      subst (Continues network (route_of network q.stream) before) hop
+      (subst (λ i. Continues network (route_of network i) before p.hop) stream next) in
+      let below : before < hop_count network q.stream = subst (λ i. before < hop_count network i) stream p_passage.hop in
+      let same : before ≡ before_too =
+      continued_once network (route_of network q.stream)
+      (route_is q q_passage) before before_too q.hop below u_passage.hop q_passage.hop next_here next_too in
       let delay : hop_delay network p.stream (route_link network p.stream before) ≡ hop_delay network q.stream (route_link network q.stream before_too) =
       ap (λ k. hop_delay network p.stream (route_link network p.stream k)) same ∙ ap (λ i. hop_delay network i (route_link network i before_too)) stream in
       let together_at : s ≡ u = omega arith in
       elim (passage_cases (record p { hop = before }) (record q { hop = before_too })) [
         | inl is ↦ (ap (λ (x : Passage). x.cycle) is, ap (λ (x : Passage). x.shift) is)
         | inr differ ↦
-            let p_passage : IsPassage network cycles (record p { hop = before }) = grind arith in
-            let u_passage : IsPassage network cycles (record q { hop = before_too }) = grind arith in
             absurd (starts_apart (record p { hop = before }) (record q { hop = before_too }) s started (subst (λ v. StartedAt run (record q { hop = before_too }) v) (sym together_at) started_too)
             (same_link p q before before_too stream same) (long (record p { hop = before }) p_passage) (long (record q { hop = before_too }) u_passage) differ)
       ]
@@ -113,14 +127,6 @@ module _ (network : Network) (formed : IsWellFormed network) (plan : Plan) (gate
       let hop = one_hop p q passage q_passage link stream in
       let same = one_cycle p q t passage q_passage link stream hop ready q_ready in
       λ i. record { stream = stream i; shift = same.1 i; cycle = same.0 i; hop = hop i }
-
-  reached_from : (q : Passage) (ready : ℕ) → IsReady network plan.offsets run q ready → (hop : ℕ)
-      → ((k s : ℕ) → hop ≤ k → StartedAt run (record q { hop = k }) s → ⊥) → q.hop ≤ hop
-  reached_from q ready (inl (first, at)) hop unstarted = omega arith
-  reached_from q ready (inr (before, s, next, started, after)) hop unstarted = elim (cases_lt before hop) [
-    | inl less ↦ omega arith
-    | inr past ↦ absurd (unstarted before s past started)
-  ]
 
   -- where no frame may be early a passage is held up by one that is before it in the queue
   module _ (exact : plan.slack ≡ 0) where
@@ -197,51 +203,29 @@ module _ (network : Network) (formed : IsWellFormed network) (plan : Plan) (gate
     found : (q : Passage) (ready : ℕ) → IsPassage network cycles q → IsReady network plan.offsets run q ready → ((s : ℕ) → StartedAt run q s → ⊥) → Found q
     unfolding passage_of link_of
     found q ready passage is_ready never =
-        let at = tracked.complete q.stream q.shift q.cycle passage.stream passage.sent passage.cycle in
+        let at = tracked.complete q passage in
         let frame = tracked.each at.0 at.1 in
-        let same_at : (k s : ℕ) → StartedAt run (record {
-          stream = (frame_in frames at.0).stream;
-          shift = (frame_in frames at.0).shift;
-          cycle = (frame_in frames at.0).cycle;
-          hop = k;
-        }) s → StartedAt run (record { stream = q.stream; shift = q.shift; cycle = q.cycle; hop = k }) s =
-        λ k s started. subst (λ (x : Passage). StartedAt run x s) (λ i. record { stream = at.2 i; shift = at.3 i; cycle = at.4 i; hop = k }) started in
-        let same_from : (k s : ℕ) → StartedAt run (record { stream = q.stream; shift = q.shift; cycle = q.cycle; hop = k }) s
-        → StartedAt run (record {
-          stream = (frame_in frames at.0).stream;
-          shift = (frame_in frames at.0).shift;
-          cycle = (frame_in frames at.0).cycle;
-          hop = k;
-        }) s = grind arith in
-        let not_past : (frame_in frames at.0).hop ≤ q.hop = elim (cases_lt q.hop (frame_in frames at.0).hop) [
-          | inl past ↦ let started = frame.started q.hop past in absurd (never started.0 (same_at q.hop started.0 started.1))
-          | inr not_past ↦ not_past
-        ] in
-        let reached : q.hop ≤ (frame_in frames at.0).hop = reached_from q ready is_ready (frame_in frames at.0).hop (λ k s before started. frame.unstarted k s before (same_from k s started)) in
-        let hop : (frame_in frames at.0).hop ≡ q.hop = omega arith in
-        let is : record {
-          stream = (frame_in frames at.0).stream;
-          shift = (frame_in frames at.0).shift;
-          cycle = (frame_in frames at.0).cycle;
-          hop = (frame_in frames at.0).hop;
-        } ≡ q = λ i. record { stream = at.2 i; shift = at.3 i; cycle = at.4 i; hop = hop i } in
-        let below : (frame_in frames at.0).hop < hop_count network (frame_in frames at.0).stream = subst (λ (x : Passage). x.hop < hop_count network x.stream) (sym is) passage.hop in
-        record {
-          number = at.0;
-          below = at.1;
-          is = is;
-          turn_is = sym (frame.turn below) ∙ ap plan.turn is;
-          waits = record { waits = below; on = ap (λ (x : Passage). route_link network x.stream x.hop) is };
-        }
+        let is = at.2 in
+        elim (stage_cases (frame_in frames at.0).stage) [
+          | inl coming ↦ absurd (frame.coming coming ready (subst (λ x. IsReady network plan.offsets run x ready) (sym is) is_ready))
+          | inr not_coming ↦ elim not_coming [
+            | inl queued ↦ record {
+              number = at.0;
+              below = at.1;
+              is = is;
+              turn_is = sym (frame.turn queued) ∙ ap plan.turn is;
+              waits = record { waits = queued; on = ap (λ (x : Passage). route_link network x.stream x.hop) is };
+            }
+            | inr gone ↦ let begun = frame.gone gone in absurd (never begun.0 (subst (λ x. StartedAt run x begun.0) is begun.1))
+          ]
+        ]
 
-    frame_passage : (number : ℕ) → number < length frames → (frame_in frames number).hop < hop_count network (frame_in frames number).stream → IsPassage network cycles (passage_of (frame_in frames number))
-    unfolding passage_of
-    frame_passage number below waits = let frame = tracked.each number below in
-        record { stream = frame.stream; sent = frame.sent; cycle = frame.cycle; hop = waits }
+    frame_passage : (number : ℕ) → number < length frames → IsPassage network cycles (passage_of (frame_in frames number))
+    frame_passage number below = (tracked.each number below).passage
 
-    frame_never : (number : ℕ) → number < length frames → (s : ℕ) → StartedAt run (passage_of (frame_in frames number)) s → ⊥
-    unfolding passage_of
-    frame_never number below s started = (tracked.each number below).unstarted (frame_in frames number).hop s (omega arith) started
+    frame_never : (number : ℕ) → number < length frames → (frame_in frames number).stage ≡ Queued → (s : ℕ)
+        → StartedAt run (passage_of (frame_in frames number)) s → ⊥
+    frame_never number below waits s started = (tracked.each number below).unstarted (λ gone. cc) s started
 
     -- every start so far is at or before the present instant
     not_later : (q : Passage) (t s : ℕ) → now ≤ t → NotStartedBefore run q (t + 1) → StartedAt run q s → ⊥
@@ -252,13 +236,8 @@ module _ (network : Network) (formed : IsWellFormed network) (plan : Plan) (gate
         (Contains-append_left (map (scheduled_use network) run.scheduled) (map (background_use network) run.background) _ (Contains-map (scheduled_use network) run.scheduled (record { passage = q; time = s }) started)) in
         absurd (omega arith)
 
-    one_number : (a b : ℕ) → a < length frames → b < length frames → passage_of (frame_in frames a) ≡ passage_of (frame_in frames b) → a ≡ b
-    unfolding passage_of
-    one_number a b a_below b_below is = tracked.distinct a b a_below b_below (ap (λ (x : Passage). x.stream) is) (ap (λ (x : Passage). x.shift) is)
-        (ap (λ (x : Passage). x.cycle) is)
-
-    -- where a waiting frame's passage has the turn that the frame has
-    turn_here : (number : ℕ) → number < length frames → (frame_in frames number).hop < hop_count network (frame_in frames number).stream
+    -- where an item waits its passage has the turn that it has
+    turn_here : (number : ℕ) → number < length frames → (frame_in frames number).stage ≡ Queued
         → plan.turn (passage_of (frame_in frames number)) ≡ turn_of (frame_in frames number)
     turn_here number below waits = (tracked.each number below).turn waits
 
@@ -282,13 +261,13 @@ module _ (network : Network) (formed : IsWellFormed network) (plan : Plan) (gate
               inr (inr (
                 passage_of (frame_in frames head),
                 due.0,
-                frame_passage head head_below is_head.1.waits,
-                (λ is. differ (one_number head at.number head_below at.below (is ∙ sym at.is))),
+                frame_passage head head_below,
+                (λ is. differ (tracked.distinct head at.number head_below at.below (is ∙ sym at.is))),
                 waiting_link network link (frame_in frames head) is_head.1 ∙ sym on,
                 due.1,
                 subst (λ x. Goes x (plan.turn q)) (sym (turn_here head head_below is_head.1.waits))
                     (subst (Goes (turn_of (frame_in frames head))) at.turn_is order),
-                λ s started. absurd (frame_never head head_below s started),
+                λ s started. absurd (frame_never head head_below is_head.1.waits s started),
               ))
         ]
 
@@ -305,10 +284,10 @@ module _ (network : Network) (formed : IsWellFormed network) (plan : Plan) (gate
         → FitsAt network gates (passage_of (frame_in frames number)) t
         → IsDue network plan gates cycles free t run (passage_of (frame_in frames number)) ((tracked.each number head.0).ready head.1.waits).0
     due_from_head link number t present in_time wire head since fits = record {
-      passage_is = frame_passage number head.0 head.1.waits;
+      passage_is = frame_passage number head.0;
       ready_at = ((tracked.each number head.0).ready head.1.waits).1;
       since = subst (λ (x : Turn). x.ready ≤ t) (sym (turn_here number head.0 head.1.waits)) since;
-      unstarted = frame_never number head.0;
+      unstarted = frame_never number head.0 head.1.waits;
       wire = subst (λ l. free l ≤ t) (sym (waiting_link network link (frame_in frames number) head.1)) wire;
       in_time = in_time;
       fits = fits;

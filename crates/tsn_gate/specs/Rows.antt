@@ -43,13 +43,13 @@ pub record AreRows (network : Network) (offsets : List ℕ) (cycles : ℕ) (run 
   pub passages : map row_passage rows ≡ passages_of network cycles
   pub right : All (IsRow network offsets run) rows
 
--- where a passage stands in a table with sixteen cells for each frame of each cycle
+-- where a passage stands in a table with 64 cells for each frame of each cycle
 unfoldable pub cell_of : Network → Passage → ℕ
-cell_of network passage = (passage.cycle * frames_of network + index_of network passage.stream passage.shift) * 16 + passage.hop
+cell_of network passage = (passage.cycle * frames_of network + index_of network passage.stream passage.shift) * 64 + passage.hop
 
 -- the table has the starts of the passages
 pub record IsTable (network : Network) (cycles : ℕ) (starts : List ScheduledStart) (table : List (Option ℕ)) : Type 0 where
-  pub count : length table ≡ cycles * frames_of network * 16
+  pub count : length table ≡ cycles * frames_of network * 64
   pub has : (passage : Passage) (t : ℕ) → IsPassage network cycles passage → (slice_index_or table (cell_of network passage) None ≡ Some t) ↔ Contains starts (record { passage = passage; time = t })
 
 -- the starts of so many cycles can be read in the table, and when they are planned
@@ -60,7 +60,7 @@ pub record AreTimes (network : Network) (offsets firsts : List ℕ) (table : Lis
   pub small : All (λ offset. offset ≤ network.cycle) offsets
   pub placed : AreFirsts network firsts
   pub few : cycles ≤ 16
-  pub cells : length table ≡ cycles * frames_of network * 16
+  pub cells : length table ≡ cycles * frames_of network * 64
 
 -- the row of a passage, by the table
 unfoldable pub row_of : Network → List ℕ → List (Option ℕ) → Passage → Row

@@ -1,24 +1,24 @@
 //! The replay, one start after another.
-ghost use Rattle.std.specs.Prelude.{◌≡◌, ◌≢◌, ◌≤◌, ◌<◌, ◌^◌, ℕ, length, max, All, AllPairs, IfOk, Some, None, slice_index_or};
-ghost use Rattle.tsn_model.specs.Network.{stream_count, hop_count, link_at};
+ghost use Rattle.std.specs.Prelude.{◌≡◌, ◌≢◌, ◌+◌, ◌≤◌, ◌<◌, ◌^◌, ℕ, length, max, All, AllPairs, IfOk, Some, None, slice_index_or};
+ghost use Rattle.tsn_model.specs.Network.{stream_count, route_of, hop_count, route_link, link_at, Continues};
 ghost use Rattle.tsn_model.specs.Bridge.{LinkGates};
 ghost use Rattle.tsn_gate.specs.Bounds.{latest_free, latest_instant};
 ghost use Rattle.tsn_gate.specs.Openings.{AreListNumbers};
-ghost use Rattle.tsn_gate.specs.Queue.{Waits, AreInLine, free_on};
+ghost use Rattle.tsn_gate.specs.Queue.{AreInLine, IsOneVisit, passage_of, frame_in, free_on};
 ghost use Rattle.tsn_gate.specs.Feeding.{waiting_on, no_start, HasLink};
 ghost use Rattle.tsn_gate.specs.Ports.{IsPort, IsFirstPort, port_in};
 ghost use Rattle.tsn_gate.specs.Records.{noted};
-ghost use Rattle.tsn_gate.specs.Progress.{setting_of, IsSetting, IsUnderWay, IsPortAt, IsState, IsRenewed, IsSending, AreBegun, AreStarts, time_left};
+ghost use Rattle.tsn_gate.specs.Progress.{setting_of, IsSetting, IsUnderWay, IsPortAt, IsState, IsRenewed, IsSending, IsOnward, AreMoved, arrived, AreBegun, AreStarts, time_left};
 
 use crate::alternation::Alternation;
 use crate::background::Background;
 use crate::feed::{Feed, Waiting};
 use crate::openings::Openings;
 use crate::port::{LinkQueue, Port};
-use crate::queue::{Frame, Haste, advance, frames_of, turned};
+use crate::queue::{Frame, Haste, Stage, arrive, continues, frames_of, turned};
 use crate::starts::Starts;
 use crate::tournament::PortQueue;
-use crate::visits::{Visit, visits_of};
+use crate::visits::{Visit, frame_count, visits_of};
 use std::alloc::{AllocError, Global};
 use tsn_model::bounds::OVERHEAD_OCTETS;
 use tsn_model::plain::PlainNetwork;
@@ -106,7 +106,7 @@ impl Replay<'_> {
         let mut frames = frames_of(alloc, self.network, self.offsets, self.cycles)?;
         for number in 0..frames.len() {
             let frame = frames[number];
-            let haste = self.haste(&frame, 0);
+            let haste = self.haste(&frame);
             let first = turned(self.network, &frames, number, frame, 0, haste);
             frames[number] = first;
         }
@@ -194,18 +194,57 @@ impl Replay<'_> {
     {
         let link = self.gates[number].link();
         let frame = state.frames[waiting];
-        let haste = self.haste(&frame, frame.hop + 1);
-        let moved = advance(self.network, &state.frames, waiting, time, haste);
         state.starts.start(&frame, time)?;
         state.time = time;
         state.free[link] = time + self.network.occupancy(frame.stream, link);
-        state.frames[waiting] = moved;
-        self.renew(state, number, &moved);
+        self.hand_on(&mut state.frames, waiting, time);
+        self.renew(state, number, &frame);
         Ok(())
     }
 
-    // Whether a frame is ready early on a hop.
-    fn haste(&self, frame: &Frame, hop: usize) -> Haste
+    // The frame of an item has started at an instant: it is gone there, and has come to each hop that continues this one.
+    fn hand_on(&self, frames: &mut Vec<Frame>, number: usize, time: u64)
+        requires setting { IsSetting (setting_of self.now) }
+        requires number { number < length frames.old.items }
+        requires line { AreInLine self.now.network.now self.now.cycles frames.old.items }
+        requires streams { All (λ (frame : Frame). frame.stream < stream_count self.now.network.now) frames.old.items }
+        requires distinct { (a b : ℕ) → a < length frames.old.items → b < length frames.old.items
+            → passage_of (frame_in frames.old.items a) ≡ passage_of (frame_in frames.old.items b) → a ≡ b }
+        requires time { time ≤ latest_free }
+        requires ready { All (λ (frame : Frame). frame.ready ≤ latest_instant) frames.old.items }
+        requires sooner { (before other : ℕ) → other < length frames.old.items → other ≡ before + 1
+            → IsOnward self.now.network.now (passage_of (frame_in frames.old.items number)) (passage_of (frame_in frames.old.items other))
+            → IsOneVisit (frame_in frames.old.items before) (frame_in frames.old.items other)
+            → (frame_in frames.old.items before).stage ≡ Stage.Queued
+            → (frame_in frames.old.items before).ready
+            < (arrived self.now.network.now (frame_in frames.old.items number) time (frame_in frames.old.items other)).ready }
+        ensures moved { AreMoved self.now.network.now self.now.slack frames.old.items number time frames.new.items }
+        ensures ready { All (λ (frame : Frame). frame.ready ≤ latest_instant) frames.new.items }
+    {
+        let frame = frames[number];
+        let block = frame_count(self.network, frame.stream) * self.cycles;
+        frames[number] = Frame {
+            stream: frame.stream,
+            hop: frame.hop,
+            shift: frame.shift,
+            cycle: frame.cycle,
+            stage: Stage::Gone,
+            ready: frame.ready,
+            rank: frame.rank,
+        };
+        for hop in frame.hop + 1..self.network.hops(frame.stream) {
+            if continues(self.network, frame.stream, frame.hop, hop) {
+                let other = number + (hop - frame.hop) * block;
+                let next = frames[other];
+                let haste = self.haste(&next);
+                let come = arrive(self.network, frames, other, &frame, time, haste);
+                frames[other] = come;
+            }
+        }
+    }
+
+    // Whether the frame of an item is ready early there.
+    fn haste(&self, frame: &Frame) -> Haste
         requires setting { IsSetting (setting_of self.now) }
         requires stream { frame.now.stream < stream_count self.now.network.now }
         ensures { result.slack ≡ self.now.slack }
@@ -217,7 +256,7 @@ impl Replay<'_> {
                 frame.stream,
                 frame.shift,
                 frame.cycle,
-                hop,
+                frame.hop,
             );
         Haste {
             slack: self.slack,
@@ -225,40 +264,43 @@ impl Replay<'_> {
         }
     }
 
-    // The port of a list, and that of the link on which a frame waits now, anew.
-    fn renew(&self, state: &mut State, number: usize, moved: &Frame)
+    // The port of a list, and those of the links to which the frame has come that started, anew.
+    fn renew(&self, state: &mut State, number: usize, started: &Frame)
         requires setting { IsSetting (setting_of self.now) }
         requires state { IsUnderWay (setting_of self.now) state.old }
-        requires stream { moved.now.stream < stream_count self.now.network.now }
+        requires stream { started.now.stream < stream_count self.now.network.now }
+        requires hop { started.now.hop < hop_count self.now.network.now started.now.stream }
         requires list { number < length self.now.gates.now }
         requires count { length state.old.ports ≡ length self.now.gates.now }
         requires others { (other : ℕ) → other < length self.now.gates.now → (number ≡ other → ⊥)
-            → ((d : LinkGates) → Waits self.now.network.now (slice_index_or self.now.gates.now other d).link moved.now → ⊥)
+            → ((hop : ℕ) (d : LinkGates) → hop < hop_count self.now.network.now started.now.stream
+            → Continues self.now.network.now (route_of self.now.network.now started.now.stream) started.now.hop hop
+            → (slice_index_or self.now.gates.now other d).link ≡ route_link self.now.network.now started.now.stream hop → ⊥)
             → IsPortAt (setting_of self.now) state.old other (port_in state.old.ports other) }
         ensures state { IsState (setting_of self.now) state.new }
         ensures end { state.new.end ≡ state.old.end }
         ensures free { state.new.free ≡ state.old.free }
     {
         self.renew_port(state, number);
-        if let Some(next) = self.list_of(state, moved) {
-            self.renew_port(state, next);
+        for hop in 0..self.network.hops(started.stream) {
+            if continues(self.network, started.stream, started.hop, hop) {
+                let next = self.list_of(state, started.stream, hop);
+                self.renew_port(state, next);
+            }
         }
     }
 
-    fn list_of(&self, state: &State, frame: &Frame) -> Option<usize>
+    // The list of a hop's link.
+    fn list_of(&self, state: &State, stream: usize, hop: usize) -> usize
         requires setting { IsSetting (setting_of self.now) }
         requires state { IsUnderWay (setting_of self.now) state.now }
-        requires stream { frame.now.stream < stream_count self.now.network.now }
-        ensures list { (number : ℕ) → result ≡ Some number → number < length self.now.gates.now }
-        ensures waits { (number : ℕ) (d : LinkGates) → number < length self.now.gates.now
-            → Waits self.now.network.now (slice_index_or self.now.gates.now number d).link frame.now → result ≡ Some number }
+        requires stream { stream < stream_count self.now.network.now }
+        requires hop { hop < hop_count self.now.network.now stream }
+        ensures list { result < length self.now.gates.now }
+        ensures of { (number : ℕ) (d : LinkGates) → number < length self.now.gates.now
+            → (slice_index_or self.now.gates.now number d).link ≡ route_link self.now.network.now stream hop → number ≡ result }
     {
-        if frame.hop < self.network.hops(frame.stream) {
-            let link = self.network.route_link(frame.stream, frame.hop);
-            Some(state.numbers[link])
-        } else {
-            None
-        }
+        state.numbers[self.network.route_link(stream, hop)]
     }
 
     // The background frame that waits starts on the link of a list.

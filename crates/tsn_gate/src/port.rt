@@ -1,6 +1,6 @@
 //! What starts next on a link.
 ghost use Rattle.std.specs.Prelude.{◌≡◌, ◌≤◌, ◌<◌, ℕ, length, All, Some, MatchOption};
-ghost use Rattle.tsn_model.specs.Network.{stream_count};
+ghost use Rattle.tsn_model.specs.Network.{stream_count, hop_count};
 ghost use Rattle.tsn_model.specs.Bridge.{length_of};
 ghost use Rattle.tsn_gate.specs.Bounds.{latest_instant};
 ghost use Rattle.tsn_gate.specs.Openings.{IsOpenFor};
@@ -71,6 +71,7 @@ impl Port {
         end: u64,
     ) -> Port
         requires streams { All (λ (frame : Frame). frame.stream < stream_count queue.network.now) queue.frames.now }
+        requires line { AreInLine queue.network.now queue.cycles queue.frames.now }
         requires ready { All (λ (frame : Frame). frame.ready ≤ latest_instant) queue.frames.now }
         requires wanted { (frame : Waiting) → waiting ≡ Some frame → frame.wanted ≤ latest_instant }
         requires from { from ≤ latest_instant }
@@ -103,6 +104,7 @@ impl Port {
 fn scheduled_on(queue: LinkQueue<'_>, first: Option<usize>, from: u64, end: u64) -> u64
     requires first { IsHead queue.network.now queue.frames.now queue.list.now.link first }
     requires streams { All (λ (frame : Frame). frame.stream < stream_count queue.network.now) queue.frames.now }
+    requires line { AreInLine queue.network.now queue.cycles queue.frames.now }
     requires ready { All (λ (frame : Frame). frame.ready ≤ latest_instant) queue.frames.now }
     requires from { from ≤ latest_instant }
     requires end { end ≤ latest_instant }
@@ -130,6 +132,7 @@ fn background_on(list: &Openings, waiting: Option<Waiting>, from: u64, end: u64)
 // When a frame can start on the list's link, from that instant on.
 fn start_of(network: &PlainNetwork, frame: &Frame, list: &Openings, from: u64, end: u64) -> u64
     requires stream { frame.now.stream < stream_count network.now }
+    requires hop { frame.now.hop < hop_count network.now frame.now.stream }
     requires waits { Waits network.now list.now.link frame.now }
     requires ready { frame.now.ready ≤ latest_instant }
     requires from { from ≤ latest_instant }

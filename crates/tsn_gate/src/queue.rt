@@ -1,25 +1,34 @@
 //! The scheduled frames, and the queue of a link.
-ghost use Rattle.std.specs.Prelude.{◌≡◌, ◌+◌, ◌++◌, ◌≤◌, ◌<◌, ◌⊎◌, ℕ, IsTrue, map, length, All, IfOk, OnOk};
-ghost use Rattle.tsn_model.specs.Network.{stream_count, hop_count};
+ghost use Rattle.std.specs.Prelude.{◌≡◌, ◌+◌, ◌++◌, ◌≤◌, ◌<◌, ◌⊎◌, ◌↔◌, ℕ, IsTrue, map, length, All, IfOk, OnOk};
+ghost use Rattle.tsn_model.specs.Network.{stream_count, route_of, hop_count, Continues};
 ghost use Rattle.tsn_model.specs.Timing.{shifts};
 ghost use Rattle.tsn_gate.specs.Frames.{AreSpaced};
 ghost use Rattle.tsn_gate.specs.Bounds.{latest_free, latest_instant};
-ghost use Rattle.tsn_gate.specs.Queue.{Precedes, IsHead, AreInLine, IsFirstAmong, IsFirstOnHop, IsVisit, AreVisits, frame_in, fresh_frame};
+ghost use Rattle.tsn_gate.specs.Queue.{Precedes, IsHead, AreInLine, IsOneVisit, IsFirstAmong, IsFirstWaiting, IsVisit, AreVisits, frame_in, first_stage, fresh_frame};
 ghost use Rattle.tsn_gate.specs.Feeding.{no_start};
-ghost use Rattle.tsn_gate.specs.Progress.{IsTracked, HasTurn, AreFirst, first_turn, advanced};
+ghost use Rattle.tsn_gate.specs.Progress.{IsTracked, HasTurn, AreFirst, first_turn, arrived};
 
 use crate::visits::Visit;
 use std::alloc::{AllocError, Global};
 use tsn_model::plain::PlainNetwork;
 
-/// The frame of a stream's shift in a cycle: the hop on which it starts next, from when on it may, and its rank among those
-/// that may from the same instant on.
+/// Where a frame is, seen from a hop of its route: still to come, in the queue of its link, or gone.
+#[derive(Clone, Copy, PartialEq, Eq)]
+pub enum Stage {
+    Coming,
+    Queued,
+    Gone,
+}
+
+/// The frame of a stream's shift in a cycle, on a hop: where it is; once it is queued from when on it may start, and its rank
+/// among those that may from the same instant on.
 #[derive(Clone, Copy)]
 pub struct Frame {
     pub stream: usize,
+    pub hop: usize,
     pub shift: u64,
     pub cycle: usize,
-    pub hop: usize,
+    pub stage: Stage,
     pub ready: u64,
     pub rank: usize,
 }
@@ -31,7 +40,7 @@ pub struct Haste {
     pub early: bool,
 }
 
-/// Each frame of each cycle, on its first hop: by stream, and those of a stream by cycle, then shift.
+/// Each frame of each cycle on each hop: by stream, those of a stream by hop, and those of a hop by cycle, then shift.
 pub fn frames_of(
     alloc: Global,
     network: &PlainNetwork,
@@ -50,34 +59,57 @@ pub fn frames_of(
     let length = network.cycle();
     let mut frames = Vec::new(alloc);
     for stream in 0..network.streams() {
-        for cycle in 0..cycles {
-            let begin = cycle as u64 * length + offsets[stream];
-            push_cycle(&mut frames, network, stream, cycle, begin)?;
+        for hop in 0..network.hops(stream) {
+            let stage = first_stage(network, stream, hop);
+            for cycle in 0..cycles {
+                let begin = cycle as u64 * length + offsets[stream];
+                push_cycle(&mut frames, network, stage, stream, hop, cycle, begin)?;
+            }
         }
     }
     Ok(frames)
 }
 
-// Adds a stream's frames of a cycle, the first of which is ready at that instant.
+// Where a frame is at first: queued where the talker sends.
+fn first_stage(network: &PlainNetwork, stream: usize, hop: usize) -> Stage
+    requires stream { stream < stream_count network.now }
+    requires hop { hop < hop_count network.now stream }
+    ensures { result ≡ first_stage network.now stream hop }
+{
+    // The network is within its limits, so each stream has a hop.
+    let _limits = network.cycle();
+    let talker = network.link(network.route_link(stream, 0)).from;
+    if network.link(network.route_link(stream, hop)).from == talker {
+        Stage::Queued
+    } else {
+        Stage::Coming
+    }
+}
+
+// Adds a stream's frames of a cycle on a hop, the first of which is ready at that instant if the talker sends there.
 fn push_cycle(
     frames: &mut Vec<Frame>,
     network: &PlainNetwork,
+    stage: Stage,
     stream: usize,
+    hop: usize,
     cycle: usize,
     begin: u64,
 ) -> Result<(), AllocError>
     requires stream { stream < stream_count network.now }
     requires early { begin ≤ 20_000_000_000 }
-    ensures { OnOk result (frames.new.items ≡ frames.old.items ++ map (fresh_frame stream cycle begin) (shifts network.now stream)) }
+    ensures { OnOk result (frames.new.items ≡ frames.old.items
+        ++ map (fresh_frame stage stream hop cycle begin) (shifts network.now stream)) }
 {
     for turn in 0..network.turns(stream) {
         for place in 0..network.burst(stream) {
             let shift = network.shift(stream, turn, place);
             frames.push(Frame {
                 stream,
+                hop,
                 shift,
                 cycle,
-                hop: 0,
+                stage,
                 ready: begin + shift,
                 rank: stream,
             })?;
@@ -86,35 +118,53 @@ fn push_cycle(
     Ok(())
 }
 
-/// The frame of that number once it has started at that time. On its next hop it is ready early or not, after its start, and
-/// behind the frame before it where this one is of the same stream and waits there.
-pub fn advance(
+/// Whether a hop of a stream's route continues another one.
+pub fn continues(network: &PlainNetwork, stream: usize, hop: usize, next: usize) -> bool
+    requires stream { stream < stream_count network.now }
+    requires hop { hop < hop_count network.now stream }
+    requires next { next < hop_count network.now stream }
+    ensures { IsTrue result ↔ Continues network.now (route_of network.now stream) hop next }
+{
+    // The network is within its limits, so its routes are of its links.
+    let _limits = network.cycle();
+    network.link(network.route_link(stream, hop)).to
+        == network.link(network.route_link(stream, next)).from
+}
+
+/// The item of that number, to which the frame has come that started on another hop at that time. It is ready early or not, after
+/// that start, and behind the item before it where this one is of the same stream and hop and queued.
+pub fn arrive(
     network: &PlainNetwork,
     frames: &[Frame],
     number: usize,
+    started: &Frame,
     time: u64,
     haste: Haste,
 ) -> Frame
     requires number { number < length frames.now }
     requires stream { (frame_in frames.now number).stream < stream_count network.now }
-    requires hop { (frame_in frames.now number).hop < hop_count network.now (frame_in frames.now number).stream }
+    requires started { started.now.stream < stream_count network.now }
+    requires hop { started.now.hop < hop_count network.now started.now.stream }
     requires time { time ≤ latest_free }
     requires short { haste.slack ≤ 1_000_000 }
-    requires sooner { (before : ℕ) → number ≡ before + 1 → (frame_in frames.now before).stream ≡ (frame_in frames.now number).stream
-        → (frame_in frames.now before).hop ≡ (frame_in frames.now number).hop + 1 → (frame_in frames.now number).hop + 1 < hop_count network.now (frame_in frames.now number).stream
-        → (frame_in frames.now before).ready < (advanced network.now (frame_in frames.now number) time).ready }
-    ensures turn { HasTurn network.now haste.slack frames.now number (advanced network.now (frame_in frames.now number) time) (time + 1) result }
+    requires sooner { (before : ℕ) → number ≡ before + 1 → IsOneVisit (frame_in frames.now before) (frame_in frames.now number)
+        → (frame_in frames.now before).stage ≡ Stage.Queued
+        → (frame_in frames.now before).ready < (arrived network.now started.now time (frame_in frames.now number)).ready }
+    ensures turn { HasTurn network.now haste.slack frames.now number
+        (arrived network.now started.now time (frame_in frames.now number)) (time + 1) result }
     ensures ready { result.ready ≤ latest_instant }
 {
+    // The network is within its limits, so a hop takes some time.
     let _limits = network.cycle();
     let frame = frames[number];
-    let link = network.route_link(frame.stream, frame.hop);
+    let link = network.route_link(started.stream, started.hop);
     let due = Frame {
         stream: frame.stream,
+        hop: frame.hop,
         shift: frame.shift,
         cycle: frame.cycle,
-        hop: frame.hop + 1,
-        ready: time + network.hop_delay(frame.stream, link),
+        stage: Stage::Queued,
+        ready: time + network.hop_delay(started.stream, link),
         rank: frame.rank,
     };
     turned(network, frames, number, due, time + 1, haste)
@@ -133,18 +183,20 @@ pub fn turned(
     requires number { number < length frames.now }
     requires stream { due.stream < stream_count network.now }
     requires least { least ≤ due.ready }
-    requires sooner { due.hop < hop_count network.now due.stream → (before : ℕ) → number ≡ before + 1 → (frame_in frames.now before).stream ≡ due.stream
-        → (frame_in frames.now before).hop ≡ due.hop → (frame_in frames.now before).ready < due.ready }
+    requires sooner { (before : ℕ) → number ≡ before + 1 → IsOneVisit (frame_in frames.now before) due
+        → (frame_in frames.now before).stage ≡ Stage.Queued
+        → (frame_in frames.now before).ready < due.ready }
     ensures { HasTurn network.now haste.slack frames.now number due least result }
 {
     let advance = if haste.early { haste.slack } else { 0 };
     let soonest = due.ready.saturating_sub(advance).max(least);
     Frame {
         stream: due.stream,
+        hop: due.hop,
         shift: due.shift,
         cycle: due.cycle,
-        hop: due.hop,
-        ready: soonest.max(behind(network, frames, number, due)),
+        stage: due.stage,
+        ready: soonest.max(behind(frames, number, due)),
         rank: rank_of(network, due.stream, haste),
     }
 }
@@ -163,21 +215,22 @@ fn rank_of(network: &PlainNetwork, stream: usize, haste: Haste) -> usize
     }
 }
 
-// The instant after the frame before it is ready, where this one is of the same stream and waits on the same hop.
-fn behind(network: &PlainNetwork, frames: &[Frame], number: usize, due: Frame) -> u64
+// The instant after the item before it is ready, where this one is of the same stream and hop and queued.
+fn behind(frames: &[Frame], number: usize, due: Frame) -> u64
     requires number { number < length frames.now }
-    requires stream { due.stream < stream_count network.now }
-    requires sooner { due.hop < hop_count network.now due.stream → (before : ℕ) → number ≡ before + 1 → (frame_in frames.now before).stream ≡ due.stream
-        → (frame_in frames.now before).hop ≡ due.hop → (frame_in frames.now before).ready < due.ready }
+    requires sooner { (before : ℕ) → number ≡ before + 1 → IsOneVisit (frame_in frames.now before) due
+        → (frame_in frames.now before).stage ≡ Stage.Queued
+        → (frame_in frames.now before).ready < due.ready }
     ensures upto { result ≤ due.ready }
-    ensures behind { due.hop < hop_count network.now due.stream → (before : ℕ) → number ≡ before + 1 → (frame_in frames.now before).stream ≡ due.stream
-        → (frame_in frames.now before).hop ≡ due.hop → (frame_in frames.now before).ready < result }
+    ensures behind { (before : ℕ) → number ≡ before + 1 → IsOneVisit (frame_in frames.now before) due
+        → (frame_in frames.now before).stage ≡ Stage.Queued
+        → (frame_in frames.now before).ready < result }
 {
-    if number == 0 || network.hops(due.stream) <= due.hop {
+    if number == 0 {
         return 0;
     }
     let before = frames[number - 1];
-    if before.stream == due.stream && before.hop == due.hop {
+    if before.stream == due.stream && before.hop == due.hop && before.stage == Stage::Queued {
         before.ready + 1
     } else {
         0
@@ -192,15 +245,19 @@ fn precedes(a: &Frame, b: &Frame) -> bool
     a.ready < b.ready || a.ready == b.ready && a.rank < b.rank
 }
 
-// Of the frames from a number on to another one the first that is on the hop. None is on a later hop than one before it.
-fn first_on(frames: &[Frame], from: usize, to: usize, hop: usize) -> Option<usize>
+// Of the items from a number on to another one the first that is queued. Those that are gone stand before it, and those that are
+// still to come behind it.
+fn first_queued(frames: &[Frame], from: usize, to: usize) -> Option<usize>
     requires order { from ≤ to }
     requires within { to ≤ length frames.now }
-    requires hops { (a b : ℕ) → from ≤ a → a < b → b < to → (frame_in frames.now b).hop ≤ (frame_in frames.now a).hop }
-    ensures { IsFirstOnHop frames.now from to hop result }
+    requires gone { (a b : ℕ) → from ≤ a → a < b → b < to
+        → (frame_in frames.now b).stage ≡ Stage.Gone → (frame_in frames.now a).stage ≡ Stage.Gone }
+    requires coming { (a b : ℕ) → from ≤ a → a < b → b < to
+        → (frame_in frames.now a).stage ≡ Stage.Coming → (frame_in frames.now b).stage ≡ Stage.Coming }
+    ensures { IsFirstWaiting frames.now from to result }
 {
-    let number = from + frames[from..to].partition_point(|frame| hop < frame.hop);
-    if number < to && frames[number].hop == hop {
+    let number = from + frames[from..to].partition_point(|frame| frame.stage == Stage::Gone);
+    if number < to && frames[number].stage == Stage::Queued {
         Some(number)
     } else {
         None
@@ -222,7 +279,7 @@ fn first_of(
     // The network is within its limits, so a route has a link once.
     let _limits = network.cycle();
     let from = visit.first * cycles;
-    first_on(frames, from, from + visit.count * cycles, visit.hop)
+    first_queued(frames, from, from + visit.count * cycles)
 }
 
 /// The first frame of the link's queue. The visits are all hops on the link.

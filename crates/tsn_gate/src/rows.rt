@@ -133,7 +133,7 @@ fn row(times: StartTimes<'_>, cycle: usize, stream: usize, shift: u64, hop: usiz
     }
 }
 
-// The starts by cycle, stream, shift and hop, sixteen cells for each frame in each cycle.
+// The starts by cycle, stream, shift and hop, 64 cells for each frame in each cycle.
 fn table_of(
     alloc: Global,
     timing: &Timing,
@@ -152,7 +152,7 @@ fn table_of(
     // The network is within its limits, so a route has few hops, and a cycle few frames.
     let _limits = timing.cycle();
     let frames = firsts[timing.streams()];
-    let mut table = vec![in alloc; None; cycles * frames * 16]?;
+    let mut table = vec![in alloc; None; cycles * frames * 64]?;
     for started in starts {
         let cell = cell(
             timing,
@@ -184,13 +184,13 @@ fn cell(
     requires hop { hop < hop_count timing.now stream }
     requires few { cycle < 16 }
     ensures value { result ≡ cell_of timing.now (record { stream = stream; shift = shift; cycle = cycle; hop = hop }) }
-    ensures within { result < (cycle + 1) * frames_of timing.now * 16 }
+    ensures within { result < (cycle + 1) * frames_of timing.now * 64 }
 {
     // The network is within its limits, so a route has few hops, and a cycle few frames.
     let _limits = timing.cycle();
     let frames = firsts[timing.streams()];
     let index = firsts[stream] + place_of(timing, stream, shift);
-    (cycle * frames + index) * 16 + hop
+    (cycle * frames + index) * 64 + hop
 }
 
 // Where a shift stands among those of its stream.

@@ -7,7 +7,8 @@ ghost use Rattle.tsn_gate.specs.Queue.{AreVisits, AreAllVisits};
 use std::alloc::{AllocError, Global};
 use tsn_model::plain::PlainNetwork;
 
-/// A stream, its hop on a link, how many frames the streams before it send in a cycle, and how many it does.
+/// A stream, its hop on a link, how many frames by hops stand before those of the hop in a cycle, and how many frames the stream
+/// sends.
 #[derive(Clone, Copy)]
 pub struct Visit {
     pub stream: usize,
@@ -41,17 +42,17 @@ fn visits_on(alloc: Global, network: &PlainNetwork, link: usize) -> Result<Vec<V
             visits.push(Visit {
                 stream,
                 hop,
-                first,
+                first: first + hop * count,
                 count,
             })?;
         }
-        first += count;
+        first += network.hops(stream) * count;
     }
     Ok(visits)
 }
 
-// How many frames a stream sends in a cycle.
-fn frame_count(network: &PlainNetwork, stream: usize) -> usize
+/// How many frames a stream sends in a cycle.
+pub fn frame_count(network: &PlainNetwork, stream: usize) -> usize
     requires { stream < stream_count network.now }
     ensures { result ≡ length (shifts network.now stream) }
 {

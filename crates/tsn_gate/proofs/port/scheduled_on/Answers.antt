@@ -8,6 +8,12 @@ pub start_of-requires-clause-waits : goal.start_of-requires-clause-waits
 unfolding frame_in
 start_of-requires-clause-waits c = (subst (IsHead c.args.queue.network.now c.args.queue.frames.now c.args.queue.list.now.link) c.in-Some.is c.requires.first).1
 
+pub start_of-requires-clause-hop : goal.start_of-requires-clause-hop
+unfolding frame_in
+start_of-requires-clause-hop c =
+    c.requires.line.hop c.in-Some.number
+    (subst (IsHead c.args.queue.network.now c.args.queue.frames.now c.args.queue.list.now.link) c.in-Some.is c.requires.first).0
+
 pub returns-in-Some : goal.returns-in-Some
 unfolding frame_in
 returns-in-Some c = record {

@@ -1,17 +1,26 @@
 use Rattle.std.proofs.Common.{◌≡◌, ◌+◌, ◌*◌, ◌++◌, List, All, ◌≤◌, ◌^◌, map, get_or, sym, ap, ◌∙◌, subst, arith, append-nil, append_assoc}
 use Rattle.std.specs.List.{flat_map, range_with_len}
-use Rattle.tsn_model.specs.Network.{stream_count}
+use Rattle.tsn_model.specs.Network.{stream_count, hop_count}
 use Rattle.tsn_model.specs.Timing.{shifts}
 use Rattle.tsn_gate.specs.declared.queue.Frame.{Frame}
 use Rattle.tsn_gate.specs.Queue.{AreInLine, fresh_frame}
 use Rattle.tsn_gate.specs.Feeding.{no_start}
 use Rattle.tsn_gate.specs.Progress.{IsTracked, AreFirst, first_turn}
-use Rattle.tsn_gate.proofs.Fresh.{pieces_next, cycle_frames, stream_frames, frames_upto, fresh_tracked, fresh_first, fresh_line, fresh_early}
+use Rattle.tsn_gate.proofs.Fresh.{pieces_next, cycle_frames, hop_frames, stream_frames, frames_upto, fresh_tracked, fresh_first, fresh_line, fresh_early}
 use Rattle.tsn_gate.proofs.queue.frames_of.Goals as goal
+
+pub loop-hop-init : goal.loop-hop-init
+loop-hop-init c = record {
+  so_far = c.loop-stream.invariant.so_far
+      ∙ sym (append-nil (frames_upto c.args.network.now c.args.offsets.now c.args.cycles c.loop-stream.stream));
+  last = c.hops-hop-end.ensures.value;
+}
 
 pub loop-cycle-init : goal.loop-cycle-init
 loop-cycle-init c = record {
-  so_far = c.loop-stream.invariant.so_far ∙ sym (append-nil (frames_upto c.args.network.now c.args.offsets.now c.args.cycles c.loop-stream.stream));
+  so_far = c.loop-hop.invariant.so_far
+      ∙ sym (append-nil (frames_upto c.args.network.now c.args.offsets.now c.args.cycles c.loop-stream.stream
+      ++ flat_map (hop_frames c.args.network.now c.args.offsets.now c.args.cycles c.loop-stream.stream) (range_with_len 0 c.loop-hop.hop)));
 }
 
 pub loop-cycle-preserved : goal.loop-cycle-preserved
@@ -19,20 +28,42 @@ loop-cycle-preserved c =
     let network = c.args.network.now in
     let offsets = c.args.offsets.now in
     let stream = c.loop-stream.stream in
+    let hop = c.loop-hop.hop in
     let cycle = c.loop-cycle.cycle in
-    let of_cycle = cycle_frames network offsets c.args.cycles stream in
-    let before = frames_upto network offsets c.args.cycles stream in
-    let new : map (fresh_frame stream cycle (cycle * c.cycle-length.result + get_or offsets stream 0)) (shifts network stream) ≡ of_cycle cycle =
-    ap (λ n. map (fresh_frame stream cycle (cycle * n + get_or offsets stream 0)) (shifts network stream)) c.cycle-length.ensures.value in
+    let of_cycle = cycle_frames network offsets c.args.cycles stream hop in
+    let before = frames_upto network offsets c.args.cycles stream ++ flat_map (hop_frames network offsets c.args.cycles stream)
+    (range_with_len 0 hop) in
+    let pushed = map (fresh_frame c.first_stage-stage.result stream hop cycle (cycle * c.cycle-length.result + get_or offsets stream 0))
+    (shifts network stream) in
+    let new : pushed ≡ of_cycle cycle =
+    λ i. map (fresh_frame (c.first_stage-stage.ensures i) stream hop cycle
+    (cycle * c.cycle-length.ensures.value i + get_or offsets stream 0)) (shifts network stream) in
     record {
       so_far =
           c.in_ok-push_cycle.ensures
-          ∙ (ap (λ (frames : List Frame). frames ++ map (fresh_frame stream cycle (cycle * c.cycle-length.result + get_or offsets stream 0))
-          (shifts network stream))
-          c.loop-cycle.invariant.so_far
+          ∙ (ap (λ (frames : List Frame). frames ++ pushed) c.loop-cycle.invariant.so_far
           ∙ (ap (λ xs. (before ++ flat_map of_cycle (range_with_len 0 cycle)) ++ xs) new
           ∙ (append_assoc before (flat_map of_cycle (range_with_len 0 cycle)) (of_cycle cycle)
           ∙ ap (λ xs. before ++ xs) (sym (pieces_next of_cycle cycle)))));
+    }
+
+pub loop-hop-preserved : goal.loop-hop-preserved
+loop-hop-preserved c =
+    let network = c.args.network.now in
+    let offsets = c.args.offsets.now in
+    let stream = c.loop-stream.stream in
+    let hop = c.loop-hop.hop in
+    let of_hop = hop_frames network offsets c.args.cycles stream in
+    let before = frames_upto network offsets c.args.cycles stream in
+    let all : c.loop-cycle.cycle ≡ c.args.cycles = omega arith in
+    record {
+      so_far =
+          c.loop-cycle.invariant.so_far
+          ∙ (ap (λ n. (before ++ flat_map of_hop (range_with_len 0 hop)) ++ flat_map
+          (cycle_frames network offsets c.args.cycles stream hop) (range_with_len 0 n)) all
+          ∙ (append_assoc before (flat_map of_hop (range_with_len 0 hop)) (of_hop hop)
+          ∙ ap (λ xs. before ++ xs) (sym (pieces_next of_hop hop))));
+      last = c.loop-hop.invariant.last;
     }
 
 pub loop-stream-preserved : goal.loop-stream-preserved
@@ -40,11 +71,13 @@ loop-stream-preserved c =
     let network = c.args.network.now in
     let offsets = c.args.offsets.now in
     let stream = c.loop-stream.stream in
-    let all : c.loop-cycle.cycle ≡ c.args.cycles = omega arith in
+    let last = c.loop-hop.invariant.last in
+    let all : c.loop-hop.hop ≡ hop_count network stream = omega arith in
     record {
       so_far =
-          c.loop-cycle.invariant.so_far
-          ∙ (ap (λ n. frames_upto network offsets c.args.cycles stream ++ flat_map (cycle_frames network offsets c.args.cycles stream) (range_with_len 0 n)) all
+          c.loop-hop.invariant.so_far
+          ∙ (ap (λ n. frames_upto network offsets c.args.cycles stream ++ flat_map (hop_frames network offsets c.args.cycles stream)
+          (range_with_len 0 n)) all
           ∙ sym (pieces_next (stream_frames network offsets c.args.cycles) stream));
       last = c.loop-stream.invariant.last;
     }
@@ -53,7 +86,8 @@ pub returns-clause-tracked : goal.returns-clause-tracked
 returns-clause-tracked c slack =
     let all : c.loop-stream.stream ≡ stream_count c.args.network.now = omega arith in
     subst (IsTracked c.args.network.now
-    (record { offsets = c.args.offsets.now; slack = slack; turn = first_turn c.args.network.now c.args.offsets.now }) c.args.cycles no_start)
+    (record { offsets = c.args.offsets.now; slack = slack; turn = first_turn c.args.network.now c.args.offsets.now })
+    c.args.cycles no_start)
     (sym (c.loop-stream.invariant.so_far ∙ ap (frames_upto c.args.network.now c.args.offsets.now c.args.cycles) all))
     (fresh_tracked c.args.network.now c.args.offsets.now c.args.cycles c.requires.spaced slack)
 
@@ -76,5 +110,6 @@ returns-clause-ready c =
     let all : c.loop-stream.stream ≡ stream_count c.args.network.now = omega arith in
     subst (All (λ (frame : Frame). frame.ready ≤ 2 ^ 50))
     (sym (c.loop-stream.invariant.so_far ∙ ap (frames_upto c.args.network.now c.args.offsets.now c.args.cycles) all))
-    (fresh_early c.args.network.now c.args.offsets.now c.args.cycles c.requires.spaced c.cycle-length.ensures.well_formed c.requires.small c.requires.count
+    (fresh_early c.args.network.now c.args.offsets.now c.args.cycles c.requires.spaced c.cycle-length.ensures.well_formed
+    c.requires.small c.requires.count
     c.requires.few)

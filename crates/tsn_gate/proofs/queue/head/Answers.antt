@@ -23,11 +23,13 @@ loop-visit-preserved c =
     let found = c.first_of.ensures in
     elim c.match-first_of.branch [
       | in-Some+in-Some-first w ↦ subst (IsFirstAmong network frames link all) (sym w.first-is)
-          (head_kept network frames link before here all split c.loop-visit.first w.in-Some-first.best w.in-Some.number w.in-Some-first.is first
+          (head_kept network frames link before here all split c.loop-visit.first w.in-Some-first.best
+          w.in-Some.number w.in-Some-first.is first
           (subst (IsFirstAmong network frames link here) w.in-Some.is found)
           (elim w.precedes.ensures.no [ inl order ↦ order | inr sooner ↦ absurd (true≢false (sym sooner ∙ w.if-not-precedes.true)) ]))
       | in-Some+in_default-first-2 w ↦ subst (IsFirstAmong network frames link all) (sym w.first-is)
-          (head_new network frames link before here all split c.loop-visit.first w.in-Some-first.best w.in-Some.number w.in-Some-first.is first
+          (head_new network frames link before here all split c.loop-visit.first w.in-Some-first.best w.in-Some.number
+          w.in-Some-first.is first
           (subst (IsFirstAmong network frames link here) w.in-Some.is found)
           (w.precedes.ensures.yes w.if-not-precedes.false))
       | in-Some+in_default-first w ↦ subst (IsFirstAmong network frames link all) (sym w.first-is)
@@ -41,5 +43,7 @@ loop-visit-preserved c =
 pub returns : goal.returns
 returns c =
     let ended : c.loop-visit.visit-index ≡ length c.args.visits.now = omega arith in
-    head_all c.args.network.now c.args.frames.now c.args.link c.requires.streams c.args.visits.now c.requires.visits c.loop-visit.first
-    (subst (λ n. IsFirstAmong c.args.network.now c.args.frames.now c.args.link (IsVisited c.args.visits.now n) c.loop-visit.first) ended c.loop-visit.invariant)
+    head_all c.args.network.now c.args.frames.now c.args.link c.requires.streams c.requires.line.hop c.args.visits.now
+    c.requires.visits c.loop-visit.first
+    (subst (λ n. IsFirstAmong c.args.network.now c.args.frames.now c.args.link (IsVisited c.args.visits.now n) c.loop-visit.first)
+    ended c.loop-visit.invariant)

@@ -8,7 +8,7 @@ use Rattle.tsn_gate.proofs.queue.push_cycle.Goals as goal
 pub loop-place-init : goal.loop-place-init
 loop-place-init c = record {
   so_far = c.loop-turn.invariant.so_far
-      ∙ ap (λ shifts. c.args.frames.now.items ++ map (fresh_frame c.args.stream c.args.cycle c.args.begin) shifts)
+      ∙ ap (λ shifts. c.args.frames.now.items ++ map (fresh_frame c.args.stage c.args.stream c.args.hop c.args.cycle c.args.begin) shifts)
       (sym (append-nil (of_turns c.args.network.now c.args.stream c.loop-turn.turn)));
   last = c.burst-place-end.ensures.value;
 }
@@ -19,12 +19,13 @@ loop-place-preserved c =
     let i = c.args.stream in
     let turn = c.loop-turn.turn in
     let place = c.loop-place.place in
-    let fresh = fresh_frame i c.args.cycle c.args.begin in
+    let fresh = fresh_frame c.args.stage i c.args.hop c.args.cycle c.args.begin in
     let old = c.args.frames.now.items in
     let turns = of_turns network i turn in
     let before = turns ++ of_turn network i place turn in
     let after : turns ++ of_turn network i (place + 1) turn ≡ before ++ c.shift-shift.result ∷ [] =
-    ap (λ xs. turns ++ xs) (turn_more network i turn place) ∙ (sym (append_assoc turns (of_turn network i place turn) (of_place network i turn place ∷ []))
+    ap (λ xs. turns ++ xs) (turn_more network i turn place)
+    ∙ (sym (append_assoc turns (of_turn network i place turn) (of_place network i turn place ∷ []))
     ∙ ap (λ (s : ℕ). before ++ s ∷ []) (sym c.shift-shift.ensures.value)) in
     record {
       so_far =
@@ -46,7 +47,8 @@ loop-turn-preserved c =
     let whole : of_turns network i turn ++ of_turn network i c.loop-place.place turn ≡ of_turns network i (turn + 1) =
     ap (λ places. of_turns network i turn ++ of_turn network i places turn) all ∙ sym (turns_more network i turn) in
     record {
-      so_far = c.loop-place.invariant.so_far ∙ ap (λ shifts. c.args.frames.now.items ++ map (fresh_frame i c.args.cycle c.args.begin) shifts) whole;
+      so_far = c.loop-place.invariant.so_far
+          ∙ ap (λ shifts. c.args.frames.now.items ++ map (fresh_frame c.args.stage i c.args.hop c.args.cycle c.args.begin) shifts) whole;
       last = c.loop-turn.invariant.last;
     }
 
@@ -56,4 +58,5 @@ returns c =
     let i = c.args.stream in
     let all : c.loop-turn.turn ≡ turns_of network i = omega arith in
     c.loop-turn.invariant.so_far
-    ∙ ap (λ shifts. c.args.frames.now.items ++ map (fresh_frame i c.args.cycle c.args.begin) shifts) (ap (of_turns network i) all ∙ all_turns network i)
+    ∙ ap (λ shifts. c.args.frames.now.items ++ map (fresh_frame c.args.stage i c.args.hop c.args.cycle c.args.begin) shifts)
+    (ap (of_turns network i) all ∙ all_turns network i)

@@ -1,5 +1,5 @@
 -- proofs/widened/opening/Answers.antt
-use Rattle.std.proofs.Common.{◌-◌, sym, ◌∙◌}
+use Rattle.std.proofs.Common.{sym, ◌∙◌}
 use Rattle.std.proofs.lemmas.Bool.{true≢false}
 use Rattle.tsn_gate.proofs.Widening.{opens_late, opens_at_once}
 use Rattle.tsn_gate.proofs.widened.opening.Goals as goal
