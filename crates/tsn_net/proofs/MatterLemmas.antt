@@ -1,6 +1,7 @@
 -- What a test finds, and whether it finds something.
-use Rattle.std.proofs.Common.{◌≡◌, ℕ, ◌+◌, Bool, true, false, not, ◌||◌, ◌&&◌, List, [], ◌∷◌, map, take, position, Option, Some, None, option_map, String, BTreeMap, Global, string_bytes, refl, ap, sym, ◌∙◌}
-use Rattle.std.specs.Prelude.{is_some, is_none, cond, IfSome}
+use Rattle.std.proofs.Common.{◌≡◌, ℕ, ◌+◌, ◌≤◌, Bool, true, false, not, ◌||◌, ◌&&◌, List, [], ◌∷◌, map, take, position, Option, Some, None, option_map, String, BTreeMap, Global, string_bytes, refl, ap, sym, ◌∙◌, arith}
+use Rattle.std.specs.Prelude.{is_some, is_none, cond, IfSome, ◌==◌, nat_lt}
+use Rattle.std.proofs.lemmas.Bool.Decides.{nat_tests}
 use Rattle.std.specs.List.{list_any, list_all, find, position_from}
 use Rattle.std.specs.BTreeMap.{keys}
 use Rattle.std.proofs.lemmas.Iterator.Adapters.{position_from-zero}
@@ -18,8 +19,8 @@ use Rattle.tsn_net.specs.declared.fault.Code.TheVariants.{Limit}
 use Rattle.tsn_net.specs.declared.fault.Place.{Place}
 use Rattle.tsn_net.specs.declared.matter.Matter.{Matter}
 use Rattle.tsn_net.specs.declared.matter.Matter.TheVariants as matter
-use Rattle.tsn_net.specs.Conditions.{is_name, has_name, joins, route_of, node_breaks_limit, cable_breaks_limit, stream_breaks_limit, route_breaks_limit}
-use Rattle.tsn_net.specs.Matter.{absent_key, amiss_key, other_key, is_in_range, breaks_key_limit, matter_code, IsOfTable, IsMatter}
+use Rattle.tsn_net.specs.Conditions.{is_name, has_name, joins, routes_of, node_breaks_limit, cable_breaks_limit, stream_breaks_limit, routes_break_limit, is_no_way}
+use Rattle.tsn_net.specs.Matter.{absent_key, amiss_key, other_key, is_in_range, breaks_key_limit, matter_code, IsOfTable, IsOfRoute, IsOfRoutes, IsMatter}
 use Rattle.tsn_net.proofs.DocumentLemmas.{keys_in-table, take-view}
 
 cases_found : {A : Type 0} (b : Bool) (x : A) (rest : Option A) (any : Bool) → is_some rest ≡ any → is_some (cond b (Some x) rest) ≡ (b || any)
@@ -123,10 +124,10 @@ node-breaks d = two_keys (not (is_name (text_at key.Name d))) (not (is_in_range 
 pub cable-breaks : (d : Data) → breaks_key_limit tables.Cable d ≡ cable_breaks_limit d
 cable-breaks d = three_keys (not (is_name (text_at key.A d))) (not (is_name (text_at key.B d))) (not (is_in_range key.Prop d)) key.A key.B key.Prop
 
-pub stream-breaks : (d : Data) → (breaks_key_limit tables.Stream d || route_breaks_limit (route_of d)) ≡ stream_breaks_limit d
+pub stream-breaks : (d : Data) → (breaks_key_limit tables.Stream d || routes_break_limit (routes_of d)) ≡ stream_breaks_limit d
 stream-breaks d =
     let out : Key → Bool = λ k. not (is_in_range k d) in
-    ap (λ b. b || route_breaks_limit (route_of d))
+    ap (λ b. b || routes_break_limit (routes_of d))
     (stream_keys (not (is_name (text_at key.Name d))) (out key.Octets) (out key.Release) (out key.Latest) (out key.Period) (out key.Frames) (out key.Offset)
     key.Name key.Octets key.Release key.Latest key.Period key.Frames key.Offset)
 
@@ -163,8 +164,10 @@ joined_before vs i a b x y r found first second =
 of_table : (d : Document) (p : Place) (m : Matter) → IsOfTable (table_at p) (value_at d p) m → IsMatter d p m
 of_table d p (matter.NoName k text) h = h
 of_table d p (matter.OutOfRange k number) h = h
+of_table d p (matter.RouteCount count) h = h
 of_table d p (matter.LongRoute count) h = h
 of_table d p (matter.NoRouteName text) h = h
+of_table d p matter.ManyLinks h = h
 of_table d p _ h = absurd h
 
 -- what breaks a limit of a table is the matter at its place
@@ -172,3 +175,17 @@ pub limited : (d : Document) (p : Place) (r : Option Matter) → IfSome r (λ m.
     → IfSome r (λ m. (matter_code m ≡ Limit) × IsMatter d p m)
 limited d p None h = tt
 limited d p (Some m) h = (h.0, of_table d p m h.1)
+
+-- what is the matter with a route by itself is so of the routes
+pub of_routes : (nodes : List Data) (routes : List (List (List ℕ))) (m : Matter)
+    → (route : List (List ℕ)) × (find (is_no_way nodes) routes ≡ Some route) × IsOfRoute nodes route m → IsOfRoutes nodes routes m
+of_routes nodes routes (matter.OtherTalker name other) h = absurd h.2
+of_routes nodes routes (matter.SecondEntry name from other) h = absurd h.2
+of_routes nodes routes (matter.GivenTwice names) h = absurd h.2
+of_routes nodes routes _ h = h
+
+pub right_count : (n : ℕ) → (n ≡ 0 → ⊥) → n ≤ 32 → (n == 0 || nat_lt 32 n) ≡ false
+right_count n some few =
+    let first : (n == 0) ≡ false = grind (arith, nat_tests) in
+    let second : nat_lt 32 n ≡ false = grind (arith, nat_tests) in
+    rw (first, second)

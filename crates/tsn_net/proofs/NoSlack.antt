@@ -1,7 +1,7 @@
 -- Without a slack no hop takes too little.
-use Rattle.std.proofs.Common.{◌≡◌, ℕ, ◌+◌, ◌*◌, ◌<◌, ◌==◌, Bool, true, false, ◌&&◌, List, get_or, refl, arith}
+use Rattle.std.proofs.Common.{◌≡◌, ℕ, ◌+◌, ◌*◌, ◌<◌, ◌==◌, Bool, true, false, ◌&&◌, List, get_or, None, refl, ◌∙◌, arith}
 use Rattle.std.specs.Prelude.{nat_le, if◌then◌else◌}
-use Rattle.std.specs.List.{list_any}
+use Rattle.std.specs.List.{list_any, find}
 use Rattle.std.proofs.Math.Nat.{mul-pos}
 use Rattle.std.proofs.lemmas.List.Folds.{list_any_none}
 use Rattle.std.proofs.lemmas.Bool.Decides.{nat_tests}
@@ -9,7 +9,8 @@ use Rattle.std.specs.Str.{bytes_eq}
 use Rattle.toml.specs.Data.{Data}
 use Rattle.tsn_net.specs.declared.schema.Key.TheVariants as key
 use Rattle.tsn_net.specs.Document.{number_at, text_at}
-use Rattle.tsn_net.specs.Conditions.{octet_time, delay_over, joins, is_quick, followed}
+use Rattle.tsn_net.specs.Conditions.{octet_time, delay_over, joins, is_quick}
+use Rattle.tsn_net.proofs.MatterLemmas.{found_any, none_of}
 
 some_of : (b : Bool) (m n : ℕ) → 0 < m → 0 < n → 0 < (if b then m else n)
 some_of true m n first second = first
@@ -48,7 +49,9 @@ never octets nodes cables hop =
     let cable = get_or cables i d in
     and_none (joins hop.0 hop.1 cable) (ends_quick octets nodes hop.1 cable) (ends_none octets nodes hop.1 cable))
 
-pub none_quick : (slack octets : ℕ) (nodes cables : List Data) (route : List (List ℕ)) → slack ≡ 0
-    → list_any (is_quick slack octets nodes cables) (followed route) ≡ false
-none_quick slack octets nodes cables route none =
-    rw none (list_any_none (is_quick 0 octets nodes cables) (followed route) (λ i d inside. never octets nodes cables (get_or (followed route) i d)))
+pub none_quick : (slack octets : ℕ) (nodes cables : List Data) (steps : List (List ℕ × List ℕ)) → slack ≡ 0
+    → find (is_quick slack octets nodes cables) steps ≡ None
+none_quick slack octets nodes cables steps none =
+    rw none (none_of (find (is_quick 0 octets nodes cables) steps)
+    (found_any (is_quick 0 octets nodes cables) steps
+    ∙ list_any_none (is_quick 0 octets nodes cables) steps (λ i d inside. never octets nodes cables (get_or steps i d))))

@@ -1,5 +1,5 @@
 -- In a document without fault a stream that has an offset has neither a release nor a latest instant.
-use Rattle.std.proofs.Common.{◌≡◌, ℕ, ◌<◌, ◌||◌, Bool, true, false, not, cond, List, [], ◌∷◌, length, get_or, Option, Some, None, is_some, refl, sym, ap, ◌∙◌, arith, pos, true≢false}
+use Rattle.std.proofs.Common.{◌≡◌, ℕ, ◌<◌, ◌||◌, Bool, true, false, not, List, length, get_or, Option, Some, None, is_some, refl, sym, ap, ◌∙◌, arith, pos, true≢false}
 use Rattle.std.specs.Prelude.{option_and_then, unwrap_or}
 use Rattle.std.specs.declared.cmp.Ordering.{Ordering}
 use Rattle.std.specs.declared.cmp.Ordering.TheVariants.{Less, Equal, Greater}
@@ -18,7 +18,7 @@ use Rattle.tsn_model.specs.Network.{Stream, no_stream, stream_at, turns_of, peri
 use Rattle.tsn_model.specs.Held.{AreFree, had}
 use Rattle.tsn_net.specs.declared.schema.Key.TheVariants as key
 use Rattle.tsn_net.specs.declared.schema.Table.TheVariants as tables
-use Rattle.tsn_net.specs.Schema.{name_of, has_window, known, member_keys, keys_in, has_unknown_key}
+use Rattle.tsn_net.specs.Schema.{name_of, has_routes, has_window, stream_keys, known, member_keys, keys_in, has_unknown_key}
 use Rattle.tsn_net.specs.Document.{Document, unsigned, number_at, number_or}
 use Rattle.tsn_net.specs.Conditions.{holds, fault_of, unknown_key}
 use Rattle.tsn_net.specs.Problem.{cycle_of, node_names_of, links_of, stream_of, offset_at, offsets_of, free_network_of}
@@ -50,13 +50,11 @@ key_there k p (datetime t) v there none = absurd (none-some v there)
 key_there k p (array ds) v there none = absurd (none-some v there)
 
 -- with a release or a latest instant `offset` isn't known
-unknown_beside : (window : Bool)
-    → not (list_any (λ k. bytes_eq (name_of k) (name_of key.Offset)) (cond window
-    (key.Name ∷ key.Octets ∷ key.Route ∷ key.Release ∷ key.Latest ∷ key.Period ∷ key.Frames ∷ [])
-    (key.Name ∷ key.Octets ∷ key.Route ∷ key.Period ∷ key.Frames ∷ key.Offset ∷ []))) ≡ false
-    → window ≡ false
-unknown_beside true known_there = absurd (true≢false known_there)
-unknown_beside false known_there = refl
+unknown_beside : (routes window : Bool) → not (list_any (λ k. bytes_eq (name_of k) (name_of key.Offset)) (stream_keys routes window)) ≡ false → window ≡ false
+unknown_beside true true known_there = absurd (true≢false known_there)
+unknown_beside false true known_there = absurd (true≢false known_there)
+unknown_beside true false known_there = refl
+unknown_beside false false known_there = refl
 
 module _ (d : Document) (none : fault_of d ≡ None) where
   stream_of_file : ℕ → Data
@@ -67,7 +65,7 @@ module _ (d : Document) (none : fault_of d ≡ None) where
   all_known i below = (clear d 2 none (omega arith)).streams i below
 
   no_window : (stream v : Data) → has_unknown_key tables.Stream stream ≡ false → get (name_of key.Offset) stream ≡ Some v → has_window stream ≡ false
-  no_window stream v known_all there = unknown_beside (has_window stream)
+  no_window stream v known_all there = unknown_beside (has_routes stream) (has_window stream)
       (key_there (name_of key.Offset) (λ name. not (list_any (λ k. bytes_eq (name_of k) name) (known tables.Stream stream))) stream v there known_all)
 
   absent : (found : Option Data) → is_some found ≡ false → found ≡ None

@@ -1,9 +1,9 @@
 -- The hops of a document without fault take longer than its slack.
-use Rattle.std.proofs.Common.{◌≡◌, ℕ, zero, suc, ◌+◌, ◌*◌, ◌<◌, Bool, true, false, ◌&&◌, List, [], ◌∷◌, length, get_or, map, refl, ap, sym, ◌∙◌, subst, arith, All}
+use Rattle.std.proofs.Common.{◌≡◌, ℕ, ◌+◌, ◌*◌, ◌<◌, Bool, true, false, ◌&&◌, List, [], ◌∷◌, length, get_or, map, refl, ap, sym, ◌∙◌, subst, arith, All}
 use Rattle.std.specs.Prelude.{nat_le}
-use Rattle.std.specs.List.{list_any, list_all, flat_map}
+use Rattle.std.specs.List.{list_any, flat_map}
 use Rattle.std.specs.Str.{bytes_eq}
-use Rattle.std.proofs.lemmas.Bool.{false≢true, or_parts, and_parts}
+use Rattle.std.proofs.lemmas.Bool.{false≢true}
 use Rattle.std.proofs.lemmas.Bool.Decides.{nat_tests}
 use Rattle.std.proofs.lemmas.List.{get_or-map, length-map}
 use Rattle.std.proofs.lemmas.List.Folds.{list_any_at}
@@ -11,17 +11,17 @@ use Rattle.std.proofs.lemmas.List.Elements.{All-from_get_or, All-cons, All-nil}
 use Rattle.std.proofs.lemmas.Slice.Eq.{bytes_eq-Decides}
 use Rattle.toml.specs.Data.{Data, table, no_members}
 use Rattle.tsn_model.specs.declared.Link.{Link}
-use Rattle.tsn_model.specs.Network.{Network, Stream, stream_at, octets_of, route_of, hop_count, route_link, link_at, proc_at, transfer, hop_delay}
+use Rattle.tsn_model.specs.Network.{Network, Stream, stream_at, octets_of, link_at, proc_at, transfer, hop_delay}
 use Rattle.tsn_model.proofs.Lists.{All-flat_map}
 use Rattle.tsn_net.specs.declared.schema.Key.TheVariants as key
 use Rattle.tsn_net.specs.Document.{number_at, text_at}
-use Rattle.tsn_net.specs.Conditions.{octet_time, delay_over, joins, is_joined, is_quick, followed}
-use Rattle.tsn_net.specs.Problem.{number_of, name_of_table, links_of_cable, link_between, route_links}
+use Rattle.tsn_net.specs.Conditions.{octet_time, delay_over, joins, is_quick}
+use Rattle.tsn_net.specs.Problem.{number_of, name_of_table, links_of_cable, link_between}
 use Rattle.tsn_net.proofs.WellFormedLinks.{named}
 use Rattle.tsn_net.proofs.WellFormedRoutes.{or_left, or_right, ends}
 
 -- what passes no test fails each
-fails_at : {A : Type 0} (p : A → Bool) (xs : List A) (i : ℕ) (d : A) → i < length xs → list_any p xs ≡ false → p (get_or xs i d) ≡ false
+pub fails_at : {A : Type 0} (p : A → Bool) (xs : List A) (i : ℕ) (d : A) → i < length xs → list_any p xs ≡ false → p (get_or xs i d) ≡ false
 fails_at p xs i d below none = by (p (get_or xs i d)) refl
   where
     by : (b : Bool) → p (get_or xs i d) ≡ b → b ≡ false
@@ -39,16 +39,13 @@ both false b h is = absurd (false≢true h)
 above : (a b : ℕ) → nat_le a b ≡ false → b < a
 above a b h = grind (arith, nat_tests)
 
--- a hop of a stream by what the stream is
-pub hop_takes : (network : Network) (slack i k : ℕ) (stream : Stream) → stream_at network i ≡ stream → k + 1 < hop_count network i
-    → (k + 1 < length stream.route → slack < (stream.octets + 8) * (link_at network (get_or stream.route k 0)).octet_time
-    + (link_at network (get_or stream.route k 0)).propagation + proc_at network (link_at network (get_or stream.route k 0)).to)
-    → slack < hop_delay network i (route_link network i k)
-unfolding octets_of route_of transfer hop_delay
-hop_takes network slack i k stream is within longer =
-    let P : Stream → Type 0 = λ s. k + 1 < length s.route → slack < (s.octets + 8) * (link_at network (get_or s.route k 0)).octet_time
-    + (link_at network (get_or s.route k 0)).propagation + proc_at network (link_at network (get_or s.route k 0)).to in
-    subst P (sym is) longer within
+-- the delay over a link by what the stream is
+pub delay_is : (network : Network) (i link : ℕ) (stream : Stream) → stream_at network i ≡ stream
+    → hop_delay network i link ≡ (stream.octets + 8) * (link_at network link).octet_time + (link_at network link).propagation
+    + proc_at network (link_at network link).to
+unfolding octets_of transfer hop_delay
+delay_is network i link stream is =
+    ap (λ (s : Stream). (s.octets + 8) * (link_at network link).octet_time + (link_at network link).propagation + proc_at network (link_at network link).to) is
 
 module _ (nodes cables : List Data) (slack octets : ℕ) (cables_known : (k : ℕ) → k < length cables
     → (list_any (bytes_eq (text_at key.A (get_or cables k (table no_members)))) (map name_of_table nodes) ≡ true)
@@ -112,7 +109,7 @@ module _ (nodes cables : List Data) (slack octets : ℕ) (cables_known : (k : �
     abbrev TakesLonger : ℕ → Type 0
     TakesLonger link = slack < (octets + 8) * (link_at network link).octet_time + (link_at network link).propagation + proc_at network (link_at network link).to
 
-    hop_slow : (x y : List ℕ) → list_any (bytes_eq x) names ≡ true → list_any (bytes_eq y) names ≡ true → list_any (joins x y) cables ≡ true
+    pub hop_slow : (x y : List ℕ) → list_any (bytes_eq x) names ≡ true → list_any (bytes_eq y) names ≡ true → list_any (joins x y) cables ≡ true
         → is_quick slack octets nodes cables (x, y) ≡ false → TakesLonger (link_between network.links (number_of names x, number_of names y))
     unfolding link_at
     hop_slow x y x_known y_known joined slow =
@@ -126,22 +123,3 @@ module _ (nodes cables : List Data) (slack octets : ℕ) (cables_known : (k : �
         ap (proc_at network) e.2 ∙ ap (λ ps. get_or ps (number_of names y) 0) procs_are
         ∙ get_or-map (number_at key.Proc) nodes (number_of names y) (table no_members) 0 within in
         subst (λ n. slack < (octets + 8) * (link_at network link).octet_time + (link_at network link).propagation + n) (sym proc) here
-
-    -- so does it over each hop of a route that another one follows
-    pub hops_slow : (xs : List (List ℕ)) → is_joined cables xs ≡ true → list_all (λ y. list_any (bytes_eq y) names) xs ≡ true
-        → list_any (is_quick slack octets nodes cables) (followed xs) ≡ false
-        → (k : ℕ) → suc k < length (route_links names network.links xs) → TakesLonger (get_or (route_links names network.links xs) k 0)
-    hops_slow [] joined known slow k within = absurd (omega arith)
-    hops_slow (x ∷ []) joined known slow k within = absurd (omega arith)
-    hops_slow (x ∷ y ∷ []) joined known slow k within = absurd (omega arith)
-    hops_slow (x ∷ y ∷ z ∷ xs) joined known slow zero within =
-        let first = and_parts (list_any (joins x y) cables) (is_joined cables (y ∷ z ∷ xs)) joined in
-        let mine = and_parts (list_any (bytes_eq x) names) (list_all (λ n. list_any (bytes_eq n) names) (y ∷ z ∷ xs)) known in
-        let next = and_parts (list_any (bytes_eq y) names) (list_all (λ n. list_any (bytes_eq n) names) (z ∷ xs)) mine.1 in
-        let here = or_parts (is_quick slack octets nodes cables (x, y)) (list_any (is_quick slack octets nodes cables) (followed (y ∷ z ∷ xs))) slow in
-        hop_slow x y mine.0 next.0 first.0 here.0
-    hops_slow (x ∷ y ∷ z ∷ xs) joined known slow (suc k) within =
-        let first = and_parts (list_any (joins x y) cables) (is_joined cables (y ∷ z ∷ xs)) joined in
-        let mine = and_parts (list_any (bytes_eq x) names) (list_all (λ n. list_any (bytes_eq n) names) (y ∷ z ∷ xs)) known in
-        let here = or_parts (is_quick slack octets nodes cables (x, y)) (list_any (is_quick slack octets nodes cables) (followed (y ∷ z ∷ xs))) slow in
-        hops_slow (y ∷ z ∷ xs) first.1 mine.1 here.1 k (omega arith)

@@ -22,7 +22,8 @@ use Rattle.tsn_net.specs.declared.matter.End.{End}
 use Rattle.tsn_net.specs.declared.matter.End.TheVariants.{First, Last}
 use Rattle.tsn_net.specs.Schema.{name_of, required, known, keys_in, is_table, holds_at, has_kind, name_keys, number_keys, table_keys}
 use Rattle.tsn_net.specs.Document.{Document, value_at, table_at, integer_or, integer_at, number_at, number_or, text_at}
-use Rattle.tsn_net.specs.Conditions.{holds, first_place, fault_of, is_within, is_name, is_rate, route_of, frames_of, has_name, joins, repeats, runs_between_stations, is_joined, neighbours, is_quick, followed, names_station, names_bridge, inner}
+use Rattle.tsn_net.specs.DocumentView.{texts_view, step_view}
+use Rattle.tsn_net.specs.Conditions.{holds, first_place, fault_of, is_within, is_name, is_rate, routes_of, names_along, steps_of, different, few, are_miscounted, is_long, frames_of, has_name, joins, is_no_way, talker_of, other_talker, second_entry, given_again, has_cable, is_quick, inner_steps, names_station, names_bridge, inner}
 
 -- the condition that it is of
 abbrev pub matter_code : Matter → Code
@@ -34,8 +35,10 @@ matter_code (matter.OutOfRange k number) = code.Limit
 matter_code (matter.TooMany k count) = code.Limit
 matter_code (matter.TooManyFrames count) = code.Limit
 matter_code (matter.NoName k text) = code.Limit
-matter_code (matter.NoRouteName text) = code.Limit
+matter_code (matter.RouteCount count) = code.Limit
 matter_code (matter.LongRoute count) = code.Limit
+matter_code (matter.NoRouteName text) = code.Limit
+matter_code matter.ManyLinks = code.Limit
 matter_code (matter.TakenName number) = code.DuplicateName
 matter_code (matter.NoNode name) = code.UnknownName
 matter_code (matter.BadRate mbps) = code.BadRate
@@ -45,10 +48,13 @@ matter_code (matter.ShortRoute count) = code.BadRoute
 matter_code (matter.Twice name before again) = code.BadRoute
 matter_code (matter.NoStation name end) = code.BadRoute
 matter_code (matter.NoBridge name) = code.BadRoute
-matter_code (matter.NoCable hop from to) = code.NoCable
+matter_code (matter.OtherTalker name other) = code.BadRoute
+matter_code (matter.SecondEntry name from other) = code.BadRoute
+matter_code (matter.GivenTwice names) = code.BadRoute
+matter_code (matter.NoCable step) = code.NoCable
 matter_code matter.NoStream = code.NoStream
 matter_code (matter.BadPeriod period cycle) = code.BadPeriod
-matter_code (matter.BadSlack slack hop from to) = code.BadSlack
+matter_code (matter.BadSlack slack step) = code.BadSlack
 
 -- the first key that a table has to have and hasn't
 abbrev pub absent_key : Table → Data → Option Key
@@ -80,7 +86,8 @@ most_at key.Frames = 16
 most_at key.Node = 256
 most_at key.Link = 512
 most_at key.Stream = 128
-most_at key.Route = 17
+most_at key.Route = 65
+most_at key.Routes = 32
 most_at _ = 1000000000
 
 -- the number at a key, which is the least where there is none that may be left out
@@ -134,18 +141,26 @@ tables_like d _ = []
 abbrev pub tables_before : Document → Place → List Data
 tables_before d p = take (number_in p) (tables_like d p)
 
--- the nodes that a cable or a route names, in order
+-- the nodes that a cable or the routes of a stream name, in order
 abbrev pub nodes_named : Document → Place → List (List ℕ)
 nodes_named d (Cable k) = let cable = value_at d (Cable k) in text_at key.A cable ∷ text_at key.B cable ∷ []
-nodes_named d p = route_of (value_at d p)
+nodes_named d p = names_along (routes_of (value_at d p))
 
--- what a matter tells of a table by itself is so, and the first that is wrong: a name, then a number, and last the route
+-- what a matter tells of a table by itself is so, and the first that is wrong: a name, then a number, and last the routes: how many they
+-- are, how long each is, their names, and how many links they have
 abbrev pub IsOfTable : Table → Data → Matter → Type 0
 IsOfTable t d (matter.NoName k text) = (nameless_key t d ≡ Some k) × (text.now ≡ text_at k d)
 IsOfTable t d (matter.OutOfRange k number) = (nameless_key t d ≡ None) × (outside_key t d ≡ Some k) × (number ≡ number_of k d)
-IsOfTable t d (matter.LongRoute count) = (t ≡ tables.Stream) × KeepsLimits t d × (count ≡ length (route_of d)) × (17 < count)
+IsOfTable t d (matter.RouteCount count) =
+    (t ≡ tables.Stream) × KeepsLimits t d × (are_miscounted (routes_of d) ≡ true) × (count ≡ length (routes_of d))
+IsOfTable t d (matter.LongRoute count) =
+    (t ≡ tables.Stream) × KeepsLimits t d × (are_miscounted (routes_of d) ≡ false) × (option_map length (find is_long (routes_of d)) ≡ Some count)
 IsOfTable t d (matter.NoRouteName text) =
-    (t ≡ tables.Stream) × KeepsLimits t d × (length (route_of d) ≤ 17) × (find (λ name. not (is_name name)) (route_of d) ≡ Some text.now)
+    (t ≡ tables.Stream) × KeepsLimits t d × (are_miscounted (routes_of d) ≡ false) × (find is_long (routes_of d) ≡ None)
+    × (find (λ name. not (is_name name)) (names_along (routes_of d)) ≡ Some text.now)
+IsOfTable t d matter.ManyLinks =
+    (t ≡ tables.Stream) × KeepsLimits t d × (are_miscounted (routes_of d) ≡ false) × (find is_long (routes_of d) ≡ None)
+    × (find (λ name. not (is_name name)) (names_along (routes_of d)) ≡ None) × (few (different (steps_of (routes_of d))) ≡ None)
 IsOfTable t d _ = ⊥
 
 -- the name at an end of a route
@@ -179,24 +194,25 @@ IsOfRoute nodes route (matter.NoBridge name) =
     × (find (λ n. not (names_bridge nodes n)) (inner route) ≡ Some name.now)
 IsOfRoute nodes route _ = ⊥
 
--- no cable joins these neighbours of a route, which are the first such
-abbrev pub first_gap : List Data → List (List ℕ) → Option ℕ
-first_gap cables route = position (λ p. not (list_any (joins p.0 p.1) cables)) (neighbours route)
+-- what it tells of some routes among these nodes is so, and the first that is wrong: one that is none by itself, then one that begins
+-- elsewhere, a bridge that is entered twice, and last one that is given twice
+abbrev pub IsOfRoutes : List Data → List (List (List ℕ)) → Matter → Type 0
+IsOfRoutes nodes routes (matter.OtherTalker name other) =
+    (find (is_no_way nodes) routes ≡ None) × (name.now ≡ talker_of routes) × (other_talker routes ≡ Some other.now)
+IsOfRoutes nodes routes (matter.SecondEntry name from other) =
+    (find (is_no_way nodes) routes ≡ None) × (other_talker routes ≡ None) × (second_entry nodes routes ≡ Some (name.now, from.now, other.now))
+IsOfRoutes nodes routes (matter.GivenTwice names) =
+    (find (is_no_way nodes) routes ≡ None) × (other_talker routes ≡ None) × (second_entry nodes routes ≡ None)
+    × (given_again routes ≡ Some (texts_view names.now))
+IsOfRoutes nodes routes m = (route : List (List ℕ)) × (find (is_no_way nodes) routes ≡ Some route) × IsOfRoute nodes route m
 
-abbrev pub IsGap : List Data → List (List ℕ) → Matter → Type 0
-IsGap cables route (matter.NoCable hop from to) =
-    (first_gap cables route ≡ Some hop) × (from.now ≡ slice_index_or route hop []) × (to.now ≡ slice_index_or route (hop + 1) [])
-IsGap cables route _ = ⊥
+-- the first step without a cable, and the first of those that another one follows over which a frame of so many octets takes no longer
+-- than the slack
+abbrev pub first_gap : List Data → List (List ℕ × List ℕ) → Option (List ℕ × List ℕ)
+first_gap cables steps = find (λ p. not (has_cable cables p)) steps
 
--- the first hop of a route of which, but for the last one, a frame of so many octets takes no longer than the slack
-abbrev pub first_quick : ℕ → ℕ → List Data → List Data → List (List ℕ) → Option ℕ
-first_quick slack octets nodes cables route = position (is_quick slack octets nodes cables) (followed route)
-
-abbrev pub IsQuick : ℕ → ℕ → List Data → List Data → List (List ℕ) → Matter → Type 0
-IsQuick slack octets nodes cables route (matter.BadSlack told hop from to) =
-    (told ≡ slack) × (first_quick slack octets nodes cables route ≡ Some hop) × (from.now ≡ slice_index_or route hop [])
-    × (to.now ≡ slice_index_or route (hop + 1) [])
-IsQuick slack octets nodes cables route _ = ⊥
+abbrev pub first_quick : ℕ → ℕ → List Data → List Data → List (List ℕ × List ℕ) → Option (List ℕ × List ℕ)
+first_quick slack octets nodes cables steps = find (is_quick slack octets nodes cables) steps
 
 -- what a matter tells of a place is so; where more is the matter by one condition, it is the first
 abbrev pub IsMatter : Document → Place → Matter → Type 0
@@ -211,8 +227,10 @@ IsMatter d p (matter.TooManyFrames count) =
     (p ≡ Top) × KeepsLimits (table_at p) (value_at d p) × (crowded_key d ≡ None) × (count ≡ sum_by (frames_of (number_at key.Cycle d.top)) d.streams)
     × (1024 < count)
 IsMatter d p (matter.NoName k text) = IsOfTable (table_at p) (value_at d p) (matter.NoName k text)
-IsMatter d p (matter.NoRouteName text) = IsOfTable (table_at p) (value_at d p) (matter.NoRouteName text)
+IsMatter d p (matter.RouteCount count) = IsOfTable (table_at p) (value_at d p) (matter.RouteCount count)
 IsMatter d p (matter.LongRoute count) = IsOfTable (table_at p) (value_at d p) (matter.LongRoute count)
+IsMatter d p (matter.NoRouteName text) = IsOfTable (table_at p) (value_at d p) (matter.NoRouteName text)
+IsMatter d p matter.ManyLinks = IsOfTable (table_at p) (value_at d p) matter.ManyLinks
 IsMatter d p (matter.TakenName number) =
     position (λ t. bytes_eq (text_at key.Name (value_at d p)) (text_at key.Name t)) (tables_before d p) ≡ Some number
 IsMatter d p (matter.NoNode name) = find (λ n. not (has_name d.nodes n)) (nodes_named d p) ≡ Some name.now
@@ -222,17 +240,21 @@ IsMatter d p (matter.TakenCable number) =
     let cable = value_at d p in
     (bytes_eq (text_at key.A cable) (text_at key.B cable) ≡ false)
     × (position (joins (text_at key.A cable) (text_at key.B cable)) (tables_before d p) ≡ Some number)
-IsMatter d p (matter.ShortRoute count) = IsOfRoute d.nodes (route_of (value_at d p)) (matter.ShortRoute count)
-IsMatter d p (matter.Twice name before again) = IsOfRoute d.nodes (route_of (value_at d p)) (matter.Twice name before again)
-IsMatter d p (matter.NoStation name end) = IsOfRoute d.nodes (route_of (value_at d p)) (matter.NoStation name end)
-IsMatter d p (matter.NoBridge name) = IsOfRoute d.nodes (route_of (value_at d p)) (matter.NoBridge name)
-IsMatter d p (matter.NoCable hop from to) = IsGap d.cables (route_of (value_at d p)) (matter.NoCable hop from to)
+IsMatter d p (matter.ShortRoute count) = IsOfRoutes d.nodes (routes_of (value_at d p)) (matter.ShortRoute count)
+IsMatter d p (matter.Twice name before again) = IsOfRoutes d.nodes (routes_of (value_at d p)) (matter.Twice name before again)
+IsMatter d p (matter.NoStation name end) = IsOfRoutes d.nodes (routes_of (value_at d p)) (matter.NoStation name end)
+IsMatter d p (matter.NoBridge name) = IsOfRoutes d.nodes (routes_of (value_at d p)) (matter.NoBridge name)
+IsMatter d p (matter.OtherTalker name other) = IsOfRoutes d.nodes (routes_of (value_at d p)) (matter.OtherTalker name other)
+IsMatter d p (matter.SecondEntry name from other) = IsOfRoutes d.nodes (routes_of (value_at d p)) (matter.SecondEntry name from other)
+IsMatter d p (matter.GivenTwice names) = IsOfRoutes d.nodes (routes_of (value_at d p)) (matter.GivenTwice names)
+IsMatter d p (matter.NoCable step) = first_gap d.cables (steps_of (routes_of (value_at d p))) ≡ Some (step_view step)
 IsMatter d p matter.NoStream = length d.streams ≡ 0
 IsMatter d p (matter.BadPeriod period cycle) =
     (cycle ≡ number_at key.Cycle d.top) × (period ≡ number_or cycle key.Period (value_at d p)) × ((cycle % period == 0) ≡ false)
-IsMatter d p (matter.BadSlack slack hop from to) =
+IsMatter d p (matter.BadSlack slack step) =
     let stream = value_at d p in
-    IsQuick (number_at key.Slack d.top) (number_at key.Octets stream) d.nodes d.cables (route_of stream) (matter.BadSlack slack hop from to)
+    (slack ≡ number_at key.Slack d.top)
+    × (first_quick slack (number_at key.Octets stream) d.nodes d.cables (inner_steps (routes_of stream)) ≡ Some (step_view step))
 
 -- ---- what is found
 
@@ -246,17 +268,20 @@ FindsIn breaks t d found = (is_some found ≡ breaks) × IfSome found (λ m. (ma
 
 abbrev pub FindsRoute : List Data → List (List ℕ) → Option Matter → Type 0
 FindsRoute nodes route found =
-    (is_some found ≡ (repeats route || not (runs_between_stations nodes route)))
-    × IfSome found (λ m. (matter_code m ≡ code.BadRoute) × IsOfRoute nodes route m)
+    (is_some found ≡ is_no_way nodes route) × IfSome found (λ m. (matter_code m ≡ code.BadRoute) × IsOfRoute nodes route m)
 
-abbrev pub FindsGap : List Data → List (List ℕ) → Option Matter → Type 0
-FindsGap cables route found =
-    (is_some found ≡ not (is_joined cables route)) × IfSome found (λ m. (matter_code m ≡ code.NoCable) × IsGap cables route m)
+-- of the first route that is none by itself what is the matter with it, where there is one
+abbrev pub FindsNoWay : List Data → List (List (List ℕ)) → Option Matter → Type 0
+FindsNoWay nodes routes found =
+    (is_some found ≡ is_some (find (is_no_way nodes) routes))
+    × IfSome found (λ m. (matter_code m ≡ code.BadRoute)
+    × (route : List (List ℕ)) × (find (is_no_way nodes) routes ≡ Some route) × IsOfRoute nodes route m)
 
-abbrev pub FindsQuick : ℕ → ℕ → List Data → List Data → List (List ℕ) → Option Matter → Type 0
-FindsQuick slack octets nodes cables route found =
-    (is_some found ≡ list_any (is_quick slack octets nodes cables) (followed route))
-    × IfSome found (λ m. (matter_code m ≡ code.BadSlack) × IsQuick slack octets nodes cables route m)
+abbrev pub FindsRoutes : List Data → List (List (List ℕ)) → Option Matter → Type 0
+FindsRoutes nodes routes found =
+    (is_some found
+    ≡ (list_any (is_no_way nodes) routes || is_some (other_talker routes) || is_some (second_entry nodes routes) || is_some (given_again routes)))
+    × IfSome found (λ m. (matter_code m ≡ code.BadRoute) × IsOfRoutes nodes routes m)
 
 -- the first place of these where the condition holds, with what is the matter there
 abbrev pub FindsAmong : Code → Document → List Place → Option Amiss → Type 0

@@ -1,6 +1,6 @@
 //! The laws of the definitions. Each function does nothing: its contract is the law.
 
-ghost use Rattle.tsn_net.specs.Laws.{FaultsAreFirst, FaultlessIsClear, FirstReasonsAreOne, FilesStateOne, OffsetsAreKept};
+ghost use Rattle.tsn_net.specs.Laws.{FaultsAreFirst, FaultlessIsClear, FirstReasonsAreOne, FilesStateOne, OffsetsAreKept, BranchesAreRoutes, RoutesStay};
 
 use tsn_model::laws::held_streams_keep_offsets;
 
@@ -23,6 +23,17 @@ pub fn first_reasons_are_one()
 /// A file states one problem alone.
 pub fn files_state_one()
     ensures { FilesStateOne }
+{}
+
+/// Several routes of a stream, each right by itself, from one talker, of which no two enter a bridge from different nodes, make a
+/// tree.
+pub fn branches_are_routes()
+    ensures { BranchesAreRoutes }
+{}
+
+/// A stream that has `route` goes along the links between the neighbours that it names, one after another.
+pub fn routes_stay()
+    ensures { RoutesStay }
 {}
 
 /// The schedules of the network that a document without fault states are those that have the offsets in it, of the network as

@@ -4,6 +4,8 @@ ghost use Rattle.std.specs.Prelude.{◌≡◌};
 
 use crate::fault::Code;
 use crate::schema::Key;
+use crate::steps::Step;
+use toml::Value;
 
 /// An end of a route.
 #[derive(Clone, Copy)]
@@ -31,10 +33,14 @@ pub enum Matter<'a> {
     TooManyFrames(u64),
     /// The text at a key is no name.
     NoName(Key, &'a str),
-    /// A text in a route is no name.
-    NoRouteName(&'a str),
+    /// A stream has so many routes, which are none or too many.
+    RouteCount(usize),
     /// A route has so many names, which are too many.
     LongRoute(usize),
+    /// A text in a route is no name.
+    NoRouteName(&'a str),
+    /// The routes of a stream have too many different steps.
+    ManyLinks,
     /// The node or stream of this number has the name already.
     TakenName(usize),
     /// There is no node of this name.
@@ -53,14 +59,19 @@ pub enum Matter<'a> {
     NoStation(&'a str, End),
     /// A route has this name inside, which is no bridge's.
     NoBridge(&'a str),
-    /// No cable joins the names of a route at this index and behind it.
-    NoCable(usize, &'a str, &'a str),
+    /// Two routes of a stream begin at these names.
+    OtherTalker(&'a str, &'a str),
+    /// Two routes of a stream enter the bridge of this name, from these two.
+    SecondEntry(&'a str, &'a str, &'a str),
+    /// A route of a stream, by its names, is given twice.
+    GivenTwice(&'a [Value]),
+    /// No cable joins the names of a step.
+    NoCable(Step<'a>),
     NoStream,
     /// A period that doesn't divide the cycle, in nanoseconds.
     BadPeriod(u64, u64),
-    /// A slack, in nanoseconds, and the names of a route, at this index and behind it, from one of which to the other a frame
-    /// takes no longer than that.
-    BadSlack(u64, usize, &'a str, &'a str),
+    /// A slack, in nanoseconds, and a step over which a frame takes no longer than that.
+    BadSlack(u64, Step<'a>),
 }
 
 impl Matter<'_> {
@@ -76,8 +87,10 @@ impl Matter<'_> {
             | Matter::TooMany(..)
             | Matter::TooManyFrames(_)
             | Matter::NoName(..)
+            | Matter::RouteCount(_)
+            | Matter::LongRoute(_)
             | Matter::NoRouteName(_)
-            | Matter::LongRoute(_) => Code::Limit,
+            | Matter::ManyLinks => Code::Limit,
             Matter::TakenName(_) => Code::DuplicateName,
             Matter::NoNode(_) => Code::UnknownName,
             Matter::BadRate(_) => Code::BadRate,
@@ -85,8 +98,11 @@ impl Matter<'_> {
             Matter::ShortRoute(_)
             | Matter::Twice(..)
             | Matter::NoStation(..)
-            | Matter::NoBridge(_) => Code::BadRoute,
-            Matter::NoCable(..) => Code::NoCable,
+            | Matter::NoBridge(_)
+            | Matter::OtherTalker(..)
+            | Matter::SecondEntry(..)
+            | Matter::GivenTwice(_) => Code::BadRoute,
+            Matter::NoCable(_) => Code::NoCable,
             Matter::NoStream => Code::NoStream,
             Matter::BadPeriod(..) => Code::BadPeriod,
             Matter::BadSlack(..) => Code::BadSlack,

@@ -4,14 +4,14 @@ ghost use Rattle.std.specs.List.{list_all, find};
 ghost use Rattle.std.specs.Str.{bytes_eq};
 ghost use Rattle.toml.specs.View.{view};
 ghost use Rattle.tsn_net.specs.Document.{IsPlace, text_at};
-ghost use Rattle.tsn_net.specs.DocumentView.{document_view, texts_view};
-ghost use Rattle.tsn_net.specs.Conditions.{has_name, joins};
+ghost use Rattle.tsn_net.specs.DocumentView.{document_view, texts_view, routes_view};
+ghost use Rattle.tsn_net.specs.Conditions.{has_name, joins, names_along};
 ghost use Rattle.tsn_net.specs.Matter.{Finds};
 
-use crate::document::{Document, text, text_at};
+use crate::document::{Document, text, text_at, texts_of};
 use crate::fault::{Code, Place};
 use crate::matter::Matter;
-use crate::routes::route_of;
+use crate::routes::routes_of;
 use crate::schema::Key;
 use toml::Value;
 
@@ -59,7 +59,7 @@ impl<'a> Document<'a> {
                     Some(Matter::NoNode(b))
                 }
             }
-            Place::Stream(_) => match unknown_in(self.nodes, route_of(self.value_at(place))) {
+            Place::Stream(_) => match unknown_along(self.nodes, routes_of(self.value_at(place))) {
                 Some(name) => Some(Matter::NoNode(name)),
                 None => None,
             },
@@ -113,6 +113,19 @@ fn unknown_in<'a>(tables: &[Value], names: &'a [Value]) -> Option<&'a str>
         Some(value) => Some(text(value)),
         None => None,
     }
+}
+
+// The first name along some routes that none of the tables has.
+fn unknown_along<'a>(tables: &[Value], routes: &'a [Value]) -> Option<&'a str>
+    ensures first { option_map (λ name. name.now) result ≡ find (λ n. not (has_name (map view tables.now) n)) (names_along (routes_view routes.now)) }
+    ensures found { is_some result ≡ not (list_all (has_name (map view tables.now)) (names_along (routes_view routes.now))) }
+{
+    for route in routes {
+        if let Some(name) = unknown_in(tables, texts_of(route)) {
+            return Some(name);
+        }
+    }
+    None
 }
 
 // The number of the first of the tables that has this name.

@@ -5,15 +5,17 @@ ghost use Rattle.std.specs.Str.{bytes_eq};
 ghost use Rattle.toml.specs.Data.{Data};
 ghost use Rattle.toml.specs.View.{view};
 ghost use Rattle.tsn_net.specs.Document.{IsPlace, text_at};
-ghost use Rattle.tsn_net.specs.DocumentView.{document_view, texts_view};
-ghost use Rattle.tsn_net.specs.Conditions.{octet_time, delay_over, is_quick, repeats, names_station, names_bridge, inner, route_of, joins};
-ghost use Rattle.tsn_net.specs.Matter.{Finds, FindsRoute, FindsGap, FindsQuick, IsOfRoute, first_again, matter_code};
+ghost use Rattle.tsn_net.specs.DocumentView.{document_view, texts_view, routes_view, one_step_view};
+ghost use Rattle.tsn_net.specs.Conditions.{octet_time, delay_over, is_quick, repeats, names_station, names_bridge, inner, routes_of, neighbours, steps_of, followed, inner_steps, joins};
+ghost use Rattle.tsn_net.specs.Matter.{Finds, FindsRoute, FindsNoWay, FindsRoutes, IsOfRoute, first_again, first_gap, first_quick, matter_code};
 
-use crate::document::{Document, elements_at, number_at, text, text_at};
+use crate::document::{Document, elements_at, number_at, text, text_at, texts_of};
 use crate::fault::{Code, Place};
 use crate::matter::{End, Matter};
 use crate::names::joins;
-use crate::schema::{Key, is_bridge, is_station};
+use crate::schema::{Key, has_routes, is_bridge, is_station};
+use crate::steps::{Step, given_again, other_talker, second_entry, talker_of};
+use std::slice;
 use toml::Value;
 
 impl<'a> Document<'a> {
@@ -23,7 +25,7 @@ impl<'a> Document<'a> {
         ensures { Finds Code.BadRoute (document_view self.now) place result }
     {
         match place {
-            Place::Stream(_) => route_amiss(self.nodes, route_of(self.value_at(place))),
+            Place::Stream(_) => routes_amiss(self.nodes, routes_of(self.value_at(place))),
             _ => None,
         }
     }
@@ -34,7 +36,10 @@ impl<'a> Document<'a> {
         ensures { Finds Code.NoCable (document_view self.now) place result }
     {
         match place {
-            Place::Stream(_) => gap_in(self.cables, route_of(self.value_at(place))),
+            Place::Stream(_) => match gap_along(self.cables, routes_of(self.value_at(place))) {
+                Some(step) => Some(Matter::NoCable(step)),
+                None => None,
+            },
             _ => None,
         }
     }
@@ -49,7 +54,11 @@ impl<'a> Document<'a> {
                 let slack = number_at(self.top, Key::Slack);
                 let stream = self.value_at(place);
                 let octets = number_at(stream, Key::Octets);
-                quick_hop(slack, octets, self.nodes, self.cables, route_of(stream))
+                let routes = routes_of(stream);
+                match quick_step(slack, octets, self.nodes, self.cables, routes) {
+                    Some(step) => Some(Matter::BadSlack(slack, step)),
+                    None => None,
+                }
             }
             _ => None,
         }
@@ -107,11 +116,17 @@ fn is_quick(
         && takes_at_most_to(slack, octets, cable, nodes, to))
 }
 
-/// The names of a stream's route.
-pub(crate) fn route_of(stream: &Value) -> &[Value]
-    ensures { texts_view result.now ≡ route_of (view stream.now) }
+/// The routes of a stream, each an array of names: those at `routes`, or else the one at `route`.
+pub(crate) fn routes_of(stream: &Value) -> &[Value]
+    ensures { routes_view result.now ≡ routes_of (view stream.now) }
 {
-    elements_at(stream, Key::Route)
+    if has_routes(stream) {
+        return elements_at(stream, Key::Routes);
+    }
+    match stream.get(Key::Route.name()) {
+        Some(route) => slice::from_ref(route),
+        None => &[],
+    }
 }
 
 // Whether the node of this name is a station.
@@ -121,8 +136,8 @@ fn names_station(nodes: &[Value], name: &str) -> bool
     nodes.iter().any(|node| text_at(node, Key::Name) == name && is_station(node))
 }
 
-// Whether the node of this name is a bridge.
-fn names_bridge(nodes: &[Value], name: &str) -> bool
+/// Whether the node of this name is a bridge.
+pub(crate) fn names_bridge(nodes: &[Value], name: &str) -> bool
     ensures { result ≡ names_bridge (map view nodes.now) name.now }
 {
     nodes
@@ -196,39 +211,100 @@ fn repeated(names: &[Value]) -> Option<Matter<'_>>
     None
 }
 
-// The first two neighbours of a route that no cable joins.
-fn gap_in<'a>(cables: &[Value], route: &'a [Value]) -> Option<Matter<'a>>
-    ensures { FindsGap (map view cables.now) (texts_view route.now) result }
+// What is the matter with the first of some routes that is none by itself.
+fn no_way_in<'a>(nodes: &[Value], routes: &'a [Value]) -> Option<Matter<'a>>
+    ensures { FindsNoWay (map view nodes.now) (routes_view routes.now) result }
 {
-    for k in 1..route.len() {
-        let from = text(&route[k - 1]);
-        let to = text(&route[k]);
-        if !are_joined(cables, from, to) {
-            return Some(Matter::NoCable(k - 1, from, to));
+    for route in routes {
+        if let Some(matter) = route_amiss(nodes, texts_of(route)) {
+            return Some(matter);
         }
     }
     None
 }
 
-// The first hop of a route, of those that another one follows, over which a frame of so many octets takes no longer than the
+// What is the matter with some routes: with one of them, or with all together.
+fn routes_amiss<'a>(nodes: &[Value], routes: &'a [Value]) -> Option<Matter<'a>>
+    ensures { FindsRoutes (map view nodes.now) (routes_view routes.now) result }
+{
+    if let Some(matter) = no_way_in(nodes, routes) {
+        return Some(matter);
+    }
+    if let Some(other) = other_talker(routes) {
+        return Some(Matter::OtherTalker(talker_of(routes), other));
+    }
+    if let Some(entry) = second_entry(nodes, routes) {
+        return Some(Matter::SecondEntry(entry.bridge, entry.from, entry.other));
+    }
+    match given_again(routes) {
+        Some(names) => Some(Matter::GivenTwice(names)),
+        None => None,
+    }
+}
+
+// The first step of a route over no cable.
+fn gap_in<'a>(cables: &[Value], route: &'a [Value]) -> Option<Step<'a>>
+    ensures { one_step_view result ≡ first_gap (map view cables.now) (neighbours (texts_view route.now)) }
+{
+    for k in 1..route.len() {
+        let from = text(&route[k - 1]);
+        let to = text(&route[k]);
+        if !are_joined(cables, from, to) {
+            return Some(Step { from, to });
+        }
+    }
+    None
+}
+
+// The same of some routes.
+fn gap_along<'a>(cables: &[Value], routes: &'a [Value]) -> Option<Step<'a>>
+    ensures { one_step_view result ≡ first_gap (map view cables.now) (steps_of (routes_view routes.now)) }
+{
+    for route in routes {
+        if let Some(step) = gap_in(cables, texts_of(route)) {
+            return Some(step);
+        }
+    }
+    None
+}
+
+// The first step of a route, of those that another one follows, over which a frame of so many octets takes no longer than the
 // slack.
-fn quick_hop<'a>(
+fn quick_in<'a>(
     slack: u64,
     octets: u64,
     nodes: &[Value],
     cables: &[Value],
     route: &'a [Value],
-) -> Option<Matter<'a>>
-    ensures { FindsQuick slack octets (map view nodes.now) (map view cables.now) (texts_view route.now) result }
+) -> Option<Step<'a>>
+    ensures { one_step_view result ≡ first_quick slack octets (map view nodes.now) (map view cables.now) (followed (texts_view route.now)) }
 {
-    if slack == 0 {
-        return None;
-    }
     for k in 2..route.len() {
         let from = text(&route[k - 2]);
         let to = text(&route[k - 1]);
         if is_quick(slack, octets, nodes, cables, from, to) {
-            return Some(Matter::BadSlack(slack, k - 2, from, to));
+            return Some(Step { from, to });
+        }
+    }
+    None
+}
+
+// The same of some routes.
+fn quick_step<'a>(
+    slack: u64,
+    octets: u64,
+    nodes: &[Value],
+    cables: &[Value],
+    routes: &'a [Value],
+) -> Option<Step<'a>>
+    ensures { one_step_view result ≡ first_quick slack octets (map view nodes.now) (map view cables.now) (inner_steps (routes_view routes.now)) }
+{
+    if slack == 0 {
+        return None;
+    }
+    for route in routes {
+        if let Some(step) = quick_in(slack, octets, nodes, cables, texts_of(route)) {
+            return Some(step);
         }
     }
     None

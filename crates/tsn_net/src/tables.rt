@@ -3,16 +3,19 @@ ghost use Rattle.std.specs.Prelude.{◌≡◌, ◌≤◌, is_some, not, map, len
 ghost use Rattle.std.specs.List.{list_all, find};
 ghost use Rattle.toml.specs.View.{view};
 ghost use Rattle.tsn_net.specs.Document.{IsPlace};
-ghost use Rattle.tsn_net.specs.DocumentView.{document_view, texts_view};
-ghost use Rattle.tsn_net.specs.Conditions.{is_rate, turns_at, has_period, has_burst, frames_of, route_breaks_limit, is_within, is_name, is_name_byte, route_of, stream_breaks_limit};
+ghost use Rattle.tsn_net.specs.DocumentView.{document_view, texts_view, routes_view};
+ghost use Rattle.tsn_net.specs.Conditions.{is_rate, turns_at, has_period, has_burst, frames_of, routes_break_limit, is_long, is_within, is_name, is_name_byte, routes_of, names_along, stream_breaks_limit};
 ghost use Rattle.tsn_net.specs.Matter.{Finds, FindsIn, KeepsLimits, breaks_key_limit, nameless_key, outside_key, number_of, is_in_range};
 
 use crate::conditions::table_at;
-use crate::document::{Document, integer_at, integer_or, number_at, number_or, text, text_at};
+use crate::document::{
+    Document, integer_at, integer_or, number_at, number_or, text, text_at, texts_of,
+};
 use crate::fault::{Code, Place};
 use crate::matter::Matter;
-use crate::routes::route_of;
+use crate::routes::routes_of;
 use crate::schema::{Key, Table, absent_key, amiss_key, other_key};
+use crate::steps::different_steps;
 use toml::Value;
 
 impl<'a> Document<'a> {
@@ -212,19 +215,53 @@ fn number_of(table: &Value, key: Key) -> i64
     }
 }
 
-// What is the matter with the length of a route or its names, where all else in the stream's table is within its limits.
+// What is the matter with the number of a stream's routes, with their lengths, their names or all their steps, where all else in
+// the stream's table is within its limits.
 fn route_limit(stream: &Value) -> Option<Matter<'_>>
     requires { KeepsLimits Table.Stream (view stream.now) }
-    ensures { FindsIn (route_breaks_limit (route_of (view stream.now))) Table.Stream (view stream.now) result }
+    ensures { FindsIn (routes_break_limit (routes_of (view stream.now))) Table.Stream (view stream.now) result }
 {
-    let route = route_of(stream);
-    if route.len() > 17 {
-        return Some(Matter::LongRoute(route.len()));
+    let routes = routes_of(stream);
+    let count = routes.len();
+    if count == 0 || count > 32 {
+        return Some(Matter::RouteCount(count));
     }
-    match no_name_in(route) {
-        Some(text) => Some(Matter::NoRouteName(text)),
-        None => None,
+    if let Some(count) = long_route(routes) {
+        return Some(Matter::LongRoute(count));
     }
+    if let Some(text) = no_name_along(routes) {
+        return Some(Matter::NoRouteName(text));
+    }
+    match different_steps(routes) {
+        Some(_) => None,
+        None => Some(Matter::ManyLinks),
+    }
+}
+
+// How many names the first route has that has too many.
+fn long_route(routes: &[Value]) -> Option<usize>
+    ensures { result ≡ option_map length (find is_long (routes_view routes.now)) }
+{
+    for route in routes {
+        let count = texts_of(route).len();
+        if count > 65 {
+            return Some(count);
+        }
+    }
+    None
+}
+
+// The first text along some routes that is no name.
+fn no_name_along(routes: &[Value]) -> Option<&str>
+    ensures first { option_map (λ text. text.now) result ≡ find (λ t. not (is_name t)) (names_along (routes_view routes.now)) }
+    ensures found { is_some result ≡ not (list_all is_name (names_along (routes_view routes.now))) }
+{
+    for route in routes {
+        if let Some(text) = no_name_in(texts_of(route)) {
+            return Some(text);
+        }
+    }
+    None
 }
 
 /// How many of a stream's periods make the cycle, rounded down; one without a period has the cycle for it.

@@ -1,9 +1,10 @@
 //! What is the matter with a network file, in words. Of the words nothing is claimed but what they are made of.
 use crate::conditions::Amiss;
-use crate::document::Document;
+use crate::document::{Document, text};
 use crate::fault::Place;
 use crate::matter::{End, Matter};
 use crate::schema::Key;
+use crate::steps::Step;
 use crate::tables::is_name;
 use std::alloc::Global;
 use std::fmt;
@@ -119,6 +120,8 @@ const MOST_FRAMES: &str = ", and may send at most 1024";
 
 const NAMES: &str = "the number of names in route";
 
+const MANY_LINKS: &str = "its routes have more than 64 links in all";
+
 // What is the matter at a place.
 #[derive(Clone, Copy)]
 struct What<'a>(Matter<'a>, Place);
@@ -139,27 +142,41 @@ impl fmt::Display for What<'_> {
                 write!(f, "the streams send {count} frames in a cycle{MOST_FRAMES}")
             }
             Matter::NoName(key, text) => write!(f, "{key} is {}", NoName(text)),
-            Matter::NoRouteName(text) => write!(f, "a name of route is {}", NoName(text)),
+            Matter::RouteCount(count) => {
+                write!(f, "routes has {count} elements, and has to have 1 to 32")
+            }
             Matter::LongRoute(count) => write!(f, "route has {count} names{}", Most(Key::Route)),
+            Matter::NoRouteName(text) => write!(f, "a name of route is {}", NoName(text)),
+            Matter::ManyLinks => write!(f, "{MANY_LINKS}"),
             Matter::TakenName(number) => write!(f, "{} has this name already", Like(place, number)),
             Matter::NoNode(name) => write!(f, "there is no node {}", Shown(name)),
             Matter::BadRate(mbps) => write!(f, "mbps is {mbps}, and has to be 10, 100 or 1000"),
             Matter::Loop => write!(f, "it joins a node to itself"),
             Matter::TakenCable(number) => write!(f, "cable {number} joins these nodes already"),
-            Matter::ShortRoute(count) => write!(f, "{NAMES} is {count}, and has to be 2 to 17"),
+            Matter::ShortRoute(count) => write!(f, "{NAMES} is {count}, and has to be 2 to 65"),
             Matter::Twice(name, _, _) => write!(f, "its route names {} twice", Shown(name)),
             Matter::NoStation(name, end) => write!(f, "its route {}", NoStation(name, end)),
             Matter::NoBridge(name) => {
                 write!(f, "its route passes {}, which is no bridge", Shown(name))
             }
-            Matter::NoCable(_, from, to) => {
-                write!(f, "no cable joins {} and {}", Shown(from), Shown(to))
+            Matter::OtherTalker(name, other) => write!(f, "{}", OtherTalker(name, other)),
+            Matter::SecondEntry(name, from, other) => {
+                write!(f, "{}", SecondEntry(name, from, other))
+            }
+            Matter::GivenTwice(names) => write!(f, "the route {} is given twice", Along(names)),
+            Matter::NoCable(step) => {
+                write!(
+                    f,
+                    "no cable joins {} and {}",
+                    Shown(step.from),
+                    Shown(step.to)
+                )
             }
             Matter::NoStream => write!(f, "there is no stream"),
             Matter::BadPeriod(period, cycle) => {
                 write!(f, "period {period} doesn't divide the cycle {cycle}")
             }
-            Matter::BadSlack(slack, _, from, to) => write!(f, "{}", TooQuick(slack, from, to)),
+            Matter::BadSlack(slack, step) => write!(f, "{}", TooQuick(slack, step)),
         }
     }
 }
@@ -177,6 +194,7 @@ fn kind_wanted(key: Key) -> &'static str {
         Key::Name | Key::A | Key::B => "a string",
         Key::Kind => "\"station\" or \"bridge\"",
         Key::Route => "an array of strings",
+        Key::Routes => "an array of arrays of strings",
         Key::Cycle | Key::Slack => "an integer",
         Key::Proc | Key::Mbps | Key::Prop => "an integer",
         Key::Octets | Key::Release | Key::Latest => "an integer",
@@ -214,15 +232,61 @@ impl fmt::Display for NoStation<'_> {
     }
 }
 
-// The nodes between which frames take no longer than the slack, which is told first.
+// At which two stations routes begin.
 #[derive(Clone, Copy)]
-struct TooQuick<'a>(u64, &'a str, &'a str);
+struct OtherTalker<'a>(&'a str, &'a str);
+
+impl fmt::Display for OtherTalker<'_> {
+    fn fmt<W: fmt::Write>(&self, f: &mut fmt::Formatter<W>) -> fmt::Result {
+        let name = Shown(self.0);
+        let other = Shown(self.1);
+        write!(
+            f,
+            "its routes begin at different stations, {name} and {other}"
+        )
+    }
+}
+
+// Which bridge two routes enter, and from which nodes.
+#[derive(Clone, Copy)]
+struct SecondEntry<'a>(&'a str, &'a str, &'a str);
+
+impl fmt::Display for SecondEntry<'_> {
+    fn fmt<W: fmt::Write>(&self, f: &mut fmt::Formatter<W>) -> fmt::Result {
+        let bridge = Shown(self.0);
+        let from = Shown(self.1);
+        let other = Shown(self.2);
+        write!(
+            f,
+            "two of its routes enter {bridge}, from {from} and from {other}"
+        )
+    }
+}
+
+// The names of a route.
+#[derive(Clone, Copy)]
+struct Along<'a>(&'a [toml::Value]);
+
+impl fmt::Display for Along<'_> {
+    fn fmt<W: fmt::Write>(&self, f: &mut fmt::Formatter<W>) -> fmt::Result {
+        let mut between = "";
+        for value in self.0 {
+            write!(f, "{between}{}", Shown(text(value)))?;
+            between = ", ";
+        }
+        Ok(())
+    }
+}
+
+// A step over which frames take no longer than the slack, which is told first.
+#[derive(Clone, Copy)]
+struct TooQuick<'a>(u64, Step<'a>);
 
 impl fmt::Display for TooQuick<'_> {
     fn fmt<W: fmt::Write>(&self, f: &mut fmt::Formatter<W>) -> fmt::Result {
-        let TooQuick(slack, from, to) = *self;
-        let from = Shown(from);
-        let to = Shown(to);
+        let TooQuick(slack, step) = *self;
+        let from = Shown(step.from);
+        let to = Shown(step.to);
         write!(
             f,
             "slack is {slack}, and has to be less than its frames take from {from} until {to} may send them on"
@@ -251,6 +315,7 @@ impl fmt::Display for Unknown<'_> {
     fn fmt<W: fmt::Write>(&self, f: &mut fmt::Formatter<W>) -> fmt::Result {
         match (self.0, self.1) {
             ("proc", Place::Node(_)) => write!(f, "a station has no proc"),
+            ("route", Place::Stream(_)) => write!(f, "a stream with routes has no route"),
             ("offset", Place::Stream(_)) => {
                 write!(f, "a stream with an offset has no release and no latest")
             }

@@ -1,13 +1,11 @@
 use Rattle.std.proofs.Common.{◌≡◌, ◌-◌, drop, map}
-use Rattle.std.specs.List.{position_from}
 use Rattle.toml.specs.View.{view}
 use Rattle.tsn_net.specs.DocumentView.{texts_view}
 use Rattle.tsn_net.specs.Conditions.{neighbours}
 use Rattle.tsn_net.specs.Matter.{first_gap}
-use Rattle.tsn_net.proofs.RouteLemmas.{is_gap}
 use Rattle.tsn_net.proofs.routes.gap_in.Given as goal
 
 -- the first gap of the rest is that of the whole
 abbrev pub invariant-loop-k : goal.invariant-loop-k
 invariant-loop-k l =
-    position_from (is_gap (map view l.cables)) (l.k - 1) (neighbours (drop (l.k - 1) (texts_view l.route))) ≡ first_gap (map view l.cables) (texts_view l.route)
+    first_gap (map view l.cables) (neighbours (drop (l.k - 1) (texts_view l.route))) ≡ first_gap (map view l.cables) (neighbours (texts_view l.route))
