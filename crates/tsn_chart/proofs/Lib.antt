@@ -4,3 +4,4 @@ pub mod Listing
 pub mod Wholes
 pub mod Counting
 pub mod Slacks
+pub mod Listening

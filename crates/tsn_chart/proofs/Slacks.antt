@@ -1,7 +1,6 @@
 -- What all links tolerate is what those do that some stream uses.
-use Rattle.std.proofs.Common.{ℕ, ◌+◌, ◌≤◌, ◌<◌, ◌↔◌, List, [], length, get_or, All, ap, ◌∙◌, subst, arith}
+use Rattle.std.proofs.Common.{ℕ, ◌≤◌, ◌<◌, ◌↔◌, List, [], length, get_or, All, ap, ◌∙◌, subst, arith}
 use Rattle.tsn_model.specs.Network.{Network, IsWellFormed, stream_count, no_stream, stream_at, route_of, hop_count, route_link}
-use Rattle.tsn_model.specs.Timing.{UsesLink}
 use Rattle.tsn_model.specs.Bridge.{LinkGates, Passage, IsPassage, link_of}
 use Rattle.tsn_model.specs.Early.{ToleratesOn, Tolerates}
 use Rattle.tsn_model.proofs.Hops.{hop_uses}
@@ -35,8 +34,8 @@ module _ (network : Network) (formed : IsWellFormed network) where
       spaced = λ cycles first second first_is second_is first_on second_on less.
           let used = subst (IsUsed network) first_on (passage_used cycles first first_is) in
           (tolerates used).spaced cycles first second first_is second_is first_on second_on less;
-      after_start = λ i k counted inside on.
-          (tolerates (subst (IsUsed network) on (hop_used i (k + 1) counted inside))).after_start i k counted inside on;
+      after_start = λ i before k counted before_inside inside continues on.
+          (tolerates (subst (IsUsed network) on (hop_used i k counted inside))).after_start i before k counted before_inside inside continues on;
     }
 
     module _ (shares : List LinkShare) (are : AreSharesOfLinks network offsets shares) where

@@ -1,4 +1,5 @@
 pub mod Shares
+pub mod Listeners
 pub mod Rest
 pub mod Table
 pub mod Json

@@ -1,6 +1,7 @@
 -- The shares as a table.
---     stream_line, link_line, slack_line, table_text     its lines, and all of them
---     stream_name                                        names
+--     stream_line, listener_line, stream_lines     the line of a stream, that of a listener, and all of a stream
+--     link_line, slack_line, table_text            the others, and all of them
+--     stream_name                                  names
 use Rattle.std.specs.Prelude.{ℕ, List, [], ◌∷◌, ◌++◌, if◌then◌else◌, slice_get, unwrap_or, codes}
 use Rattle.std.specs.List.{flat_map}
 use Rattle.std.specs.Fmt.{decimal}
@@ -8,8 +9,10 @@ use Rattle.tsn_model.specs.Network.{Network, link_at}
 use Rattle.tsn_timing.specs.Problem.{NamedNetwork}
 use Rattle.tsn_gate.specs.Table.{name_at}
 use Rattle.tsn_chart.specs.declared.stream.StreamShare.{StreamShare}
+use Rattle.tsn_chart.specs.declared.listener.ListenerShare.{ListenerShare}
 use Rattle.tsn_chart.specs.declared.link.LinkShare.{LinkShare}
 use Rattle.tsn_chart.specs.Shares.{sends_several}
+use Rattle.tsn_chart.specs.Listeners.{listener_shares}
 
 -- the name of a stream; past the last one, none
 abbrev pub stream_name : NamedNetwork → ℕ → List ℕ
@@ -29,6 +32,24 @@ stream_end network share =
 -- the stream's name, its numbers, and the end
 abbrev pub stream_line : NamedNetwork → StreamShare → List ℕ
 stream_line problem share = codes "stream " ++ (stream_name problem share.stream ++ (stream_numbers share ++ stream_end problem.network share))
+
+-- a listener's name, and that of the stream that it hears
+unfoldable pub listener_head : List ℕ → List ℕ → List ℕ
+listener_head listener stream = codes "listener " ++ (listener ++ (codes " stream " ++ stream))
+
+-- its numbers, each after its word, and the end
+unfoldable pub listener_numbers : ListenerShare → List ℕ
+listener_numbers share =
+    codes " link " ++ (decimal share.link ++ (codes " latency " ++ (decimal share.latency ++ (codes " arrival " ++ (decimal share.arrival
+    ++ (codes " to_latest " ++ (decimal share.to_latest ++ 10 ∷ [])))))))
+
+-- the line of a listener of the stream: the node at the end of its link
+abbrev pub listener_line : NamedNetwork → ℕ → ListenerShare → List ℕ
+listener_line problem stream share = listener_head (name_at problem (link_at problem.network share.link).to) (stream_name problem stream) ++ listener_numbers share
+
+-- the stream's line, and behind it one for each of its listeners where they are several, and for each way to one
+abbrev pub stream_lines : NamedNetwork → StreamShare → List ℕ
+stream_lines problem share = stream_line problem share ++ flat_map (listener_line problem share.stream) (listener_shares problem.network share)
 
 -- a link's number, and the names of the nodes that it joins
 unfoldable pub link_head : ℕ → List ℕ → List ℕ → List ℕ
@@ -53,6 +74,6 @@ link_line problem share =
 unfoldable pub slack_line : ℕ → List ℕ
 slack_line slack = codes "slack " ++ (decimal slack ++ 10 ∷ [])
 
--- a line for each stream, then one for each link, then that of the least slack
+-- the lines of each stream, then a line for each link, then that of the least slack
 abbrev pub table_text : NamedNetwork → List StreamShare → List LinkShare → ℕ → List ℕ
-table_text problem streams links slack = flat_map (stream_line problem) streams ++ (flat_map (link_line problem) links ++ slack_line slack)
+table_text problem streams links slack = flat_map (stream_lines problem) streams ++ (flat_map (link_line problem) links ++ slack_line slack)

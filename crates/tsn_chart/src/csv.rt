@@ -1,10 +1,13 @@
 //! The records of comma-separated values (RFC 4180).
-ghost use Rattle.std.specs.Prelude.{◌≡◌, ◌++◌, IfOk, OnOk, string_bytes};
-ghost use Rattle.tsn_chart.specs.Csv.{header_text, link_end, link_record, slack_end, slack_record, stream_end, stream_record};
+ghost use Rattle.std.specs.Prelude.{◌≡◌, ◌++◌, ◌<◌, All, IfOk, OnOk, length, string_bytes};
+ghost use Rattle.std.specs.List.{flat_map};
+ghost use Rattle.tsn_chart.specs.Csv.{header_text, link_end, link_record, listener_record, plain_end, slack_record, stream_end, stream_record, stream_records};
+ghost use Rattle.tsn_chart.specs.Listeners.{listener_shares};
 
 use crate::format::Format;
 use crate::frames::sends_several;
 use crate::link::LinkShare;
+use crate::listener::{ListenerShare, listeners_of};
 use crate::stream::StreamShare;
 use std::alloc::{AllocError, Global};
 use std::fmt::Write;
@@ -16,30 +19,20 @@ use tsn_timing::Problem;
 const HEADER: &str =
     "stream,offset,latency,arrival,to_latest,span,to_period_end,link,from,to,scheduled,guard,open,longest_open,slack";
 
-/// Comma-separated values: a record for each stream and each link, and one for the least slack.
+/// Comma-separated values: a record for each stream and each of its listeners where they are several, one for each link, and
+/// one for the least slack.
 pub struct Csv;
 
 impl Format for Csv {
-    ghost stream_text = { stream_record };
+    ghost stream_text = { stream_records };
 
     ghost link_text = { link_record };
 
     ghost slack_text = { λ problem slack. slack_record problem.network slack };
 
-    #[tactic(auto, unfolding(crate::specs::Csv::stream_numbers))]
     fn stream(text: &mut String, problem: &Problem, share: &StreamShare) -> Result<(), AllocError> {
-        write_quoted(text, problem.stream_name(share.stream))?;
-        write!(
-            text,
-            ",{},{},{},{},{},{},,,,,,,,",
-            share.offset,
-            share.latency,
-            share.arrival,
-            share.to_latest,
-            share.span,
-            share.to_period_end
-        )?;
-        end_stream(text, problem, share)
+        write_stream(text, problem, share)?;
+        write_listeners(text, problem, share)
     }
 
     #[tactic(auto, unfolding(crate::specs::Csv::link_head, crate::specs::Csv::link_numbers))]
@@ -59,7 +52,7 @@ impl Format for Csv {
 
     fn slack(text: &mut String, problem: &Problem, slack: u64) -> Result<(), AllocError> {
         write!(text, ",,,,,,,,,,,,,,{slack}")?;
-        end_slack(text, problem)
+        end_plain(text, problem)
     }
 }
 
@@ -74,6 +67,80 @@ pub fn header(alloc: Global, problem: &Problem) -> Result<String, AllocError>
         text.push_str("\r\n")?;
     }
     Ok(text)
+}
+
+// Writes a stream's record.
+#[tactic(auto, unfolding(crate::specs::Csv::stream_numbers))]
+fn write_stream(text: &mut String, problem: &Problem, share: &StreamShare) -> Result<(), AllocError>
+    requires { share.now.stream < length problem.now.stream_names }
+    ensures { OnOk result (string_bytes text.new ≡ string_bytes text.old ++ stream_record problem.now share.now) }
+{
+    write_quoted(text, problem.stream_name(share.stream))?;
+    write!(
+        text,
+        ",{},{},{},{},{},{},,,,,,,,",
+        share.offset, share.latency, share.arrival, share.to_latest, share.span, share.to_period_end
+    )?;
+    end_stream(text, problem, share)
+}
+
+// Writes a record for each listener of a stream, where they are several.
+fn write_listeners(
+    text: &mut String,
+    problem: &Problem,
+    share: &StreamShare,
+) -> Result<(), AllocError>
+    requires { share.now.stream < length problem.now.stream_names }
+    ensures { OnOk result (string_bytes text.new ≡ string_bytes text.old ++ flat_map (listener_record problem.now share.now.stream) (listener_shares problem.now.network share.now)) }
+{
+    // Each stream has a name.
+    let _streams = problem.streams();
+    let listeners = listeners_of(*text.allocator(), problem.timing(), share)?;
+    write_each(text, problem, share.stream, &listeners)?;
+    Ok(())
+}
+
+// Writes a record for each of these listeners of a stream.
+fn write_each(
+    text: &mut String,
+    problem: &Problem,
+    stream: usize,
+    listeners: &[ListenerShare],
+) -> Result<(), AllocError>
+    requires stream { stream < length problem.now.stream_names }
+    requires links { All (λ (listener : ListenerShare). listener.link < length problem.now.network.links) listeners.now }
+    ensures { OnOk result (string_bytes text.new ≡ string_bytes text.old ++ flat_map (listener_record problem.now stream) listeners.now) }
+{
+    for listener in listeners {
+        write_listener(text, problem, stream, listener)?;
+    }
+    Ok(())
+}
+
+// Writes the record of a listener of a stream.
+#[tactic(auto, unfolding(crate::specs::Csv::listener_numbers))]
+fn write_listener(
+    text: &mut String,
+    problem: &Problem,
+    stream: usize,
+    share: &ListenerShare,
+) -> Result<(), AllocError>
+    requires stream { stream < length problem.now.stream_names }
+    requires link { share.now.link < length problem.now.network.links }
+    ensures { OnOk result (string_bytes text.new ≡ string_bytes text.old ++ listener_record problem.now stream share.now) }
+{
+    let (from, to) = names(problem, share.link);
+    write_quoted(text, problem.stream_name(stream))?;
+    write!(
+        text,
+        ",,{},{},{},,,{},",
+        share.latency, share.arrival, share.to_latest, share.link
+    )?;
+    write_quoted(text, from)?;
+    text.push_str(",")?;
+    write_quoted(text, to)?;
+    text.push_str(",,,,,")?;
+    end_plain(text, problem)
 }
 
 // Ends a stream's record: with its period and its frames in it, where some stream sends several a cycle.
@@ -103,10 +170,10 @@ fn end_link(text: &mut String, problem: &Problem, share: &LinkShare) -> Result<(
     }
 }
 
-// Ends the record of the least slack: with the empty fields of frames, where some stream sends several a cycle.
-#[tactic(auto, unfolding(crate::specs::Csv::slack_end))]
-fn end_slack(text: &mut String, problem: &Problem) -> Result<(), AllocError>
-    ensures { OnOk result (string_bytes text.new ≡ string_bytes text.old ++ slack_end problem.now.network) }
+// Ends a record with none of these: with their empty fields, where some stream sends several frames a cycle.
+#[tactic(auto, unfolding(crate::specs::Csv::plain_end))]
+fn end_plain(text: &mut String, problem: &Problem) -> Result<(), AllocError>
+    ensures { OnOk result (string_bytes text.new ≡ string_bytes text.old ++ plain_end problem.now.network) }
 {
     if sends_several(problem) {
         text.push_str(",,,\r\n")

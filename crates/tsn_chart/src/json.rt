@@ -1,18 +1,20 @@
 //! The lines of JSON.
-ghost use Rattle.std.specs.Prelude.{◌≡◌, ◌++◌, ◌<◌, IfOk, OnOk, false, length, string_bytes};
+ghost use Rattle.std.specs.Prelude.{◌≡◌, ◌++◌, ◌<◌, All, IfOk, OnOk, false, length, string_bytes};
 ghost use Rattle.serde_json.specs.Data.{object};
 ghost use Rattle.serde_json.specs.View.{members_view, view};
 ghost use Rattle.serde_json.specs.Written.{has_float};
-ghost use Rattle.tsn_chart.specs.Json.{line_text, link_json, link_value, several_value, slack_json, slack_value, stream_json, stream_value, windows_value};
+ghost use Rattle.tsn_chart.specs.Json.{line_text, link_json, link_value, listener_value, listener_values, slack_json, slack_value, stream_json, stream_members, stream_value, windows_value, with_frames, with_listeners};
 
 use crate::format::Format;
 use crate::frames::sends_several;
 use crate::link::LinkShare;
+use crate::listener::{ListenerShare, listeners_of};
 use crate::stream::StreamShare;
-use serde_json::{Map, Value};
+use serde_json::{Map, Value, put};
 use std::alloc::{AllocError, Global};
 use tsn_gate::json::{put_number, put_text};
 use tsn_gate::list::names;
+use tsn_listeners::has_several;
 use tsn_timing::Problem;
 
 /// Lines of JSON: an object for each stream and each link, and one for the least slack.
@@ -26,13 +28,8 @@ impl Format for Json {
     ghost slack_text = { λ problem slack. slack_json slack };
 
     fn stream(text: &mut String, problem: &Problem, share: &StreamShare) -> Result<(), AllocError> {
-        if sends_several(problem) {
-            let value = several_value(*text.allocator(), problem, share)?;
-            write_line(text, &value)
-        } else {
-            let value = stream_value(*text.allocator(), problem, share)?;
-            write_line(text, &value)
-        }
+        let value = stream_value(*text.allocator(), problem, share)?;
+        write_line(text, &value)
     }
 
     fn link(text: &mut String, problem: &Problem, share: &LinkShare) -> Result<(), AllocError> {
@@ -53,20 +50,12 @@ impl Format for Json {
 
 fn stream_value(alloc: Global, problem: &Problem, share: &StreamShare) -> Result<Value, AllocError>
     requires { share.now.stream < length problem.now.stream_names }
-    ensures { IfOk result (λ value. view value ≡ stream_value problem.now share.now) }
-{
-    let members = stream_members(alloc, problem, share)?;
-    Ok(Value::Object(members))
-}
-
-// The object of a stream, with its period and its frames in it.
-fn several_value(alloc: Global, problem: &Problem, share: &StreamShare) -> Result<Value, AllocError>
-    requires { share.now.stream < length problem.now.stream_names }
-    ensures { IfOk result (λ value. view value ≡ several_value problem.now share.now) }
+    ensures value { IfOk result (λ value. view value ≡ stream_value problem.now share.now) }
+    ensures plain { IfOk result (λ value. has_float (view value) ≡ false) }
 {
     let mut members = stream_members(alloc, problem, share)?;
-    put_number(&mut members, alloc, "frames", share.frames)?;
-    put_number(&mut members, alloc, "period", share.period)?;
+    put_frames(&mut members, alloc, problem, share)?;
+    put_listeners(&mut members, alloc, problem, share)?;
     Ok(Value::Object(members))
 }
 
@@ -76,7 +65,7 @@ fn stream_members(
     share: &StreamShare,
 ) -> Result<Map<String, Value>, AllocError>
     requires { share.now.stream < length problem.now.stream_names }
-    ensures { IfOk result (λ members. object (members_view members.entries) ≡ stream_value problem.now share.now) }
+    ensures { IfOk result (λ members. members_view members.entries ≡ stream_members problem.now share.now) }
 {
     let mut members = Map::new(alloc);
     put_number(&mut members, alloc, "arrival", share.arrival)?;
@@ -92,6 +81,79 @@ fn stream_members(
     put_number(&mut members, alloc, "to_latest", share.to_latest)?;
     put_number(&mut members, alloc, "to_period_end", share.to_period_end)?;
     Ok(members)
+}
+
+// Adds the period of a stream and its frames in it, where some stream sends several a cycle.
+fn put_frames(
+    members: &mut Map<String, Value>,
+    alloc: Global,
+    problem: &Problem,
+    share: &StreamShare,
+) -> Result<(), AllocError>
+    ensures { OnOk result (members_view members.new.entries ≡ with_frames problem.now.network share.now (members_view members.old.entries)) }
+{
+    let period = share.period;
+    let frames = share.frames;
+    if sends_several(problem) {
+        put_number(members, alloc, "frames", frames)?;
+        put_number(members, alloc, "period", period)
+    } else {
+        Ok(())
+    }
+}
+
+// Adds the listeners of a stream, where they are several.
+fn put_listeners(
+    members: &mut Map<String, Value>,
+    alloc: Global,
+    problem: &Problem,
+    share: &StreamShare,
+) -> Result<(), AllocError>
+    requires { share.now.stream < length problem.now.stream_names }
+    ensures { OnOk result (members_view members.new.entries ≡ with_listeners problem.now share.now (members_view members.old.entries)) }
+{
+    // Each stream has a name.
+    let _streams = problem.streams();
+    if has_several(problem.timing(), share.stream) {
+        let listeners = listeners_of(alloc, problem.timing(), share)?;
+        let values = listener_values(alloc, problem, &listeners)?;
+        put(members, alloc, "listeners", values)
+    } else {
+        Ok(())
+    }
+}
+
+fn listener_values(
+    alloc: Global,
+    problem: &Problem,
+    listeners: &[ListenerShare],
+) -> Result<Value, AllocError>
+    requires { All (λ (listener : ListenerShare). listener.link < length problem.now.network.links) listeners.now }
+    ensures { IfOk result (λ value. view value ≡ listener_values problem.now listeners.now) }
+{
+    let mut values = Vec::with_capacity(alloc, listeners.len())?;
+    for listener in listeners {
+        values.push(listener_value(alloc, problem, listener)?)?;
+    }
+    Ok(Value::Array(values))
+}
+
+fn listener_value(
+    alloc: Global,
+    problem: &Problem,
+    share: &ListenerShare,
+) -> Result<Value, AllocError>
+    requires { share.now.link < length problem.now.network.links }
+    ensures { IfOk result (λ value. view value ≡ listener_value problem.now share.now) }
+{
+    let (_, listener) = names(problem, share.link);
+    let mut members = Map::new(alloc);
+    put_number(&mut members, alloc, "arrival", share.arrival)?;
+    put_number(&mut members, alloc, "latency", share.latency)?;
+    put_number(&mut members, alloc, "link", share.link as u64)?;
+    put_text(&mut members, alloc, "listener", listener)?;
+    put_number(&mut members, alloc, "to_latest", share.to_latest)?;
+    Ok(Value::Object(members))
 }
 
 fn link_value(alloc: Global, problem: &Problem, share: &LinkShare) -> Result<Value, AllocError>

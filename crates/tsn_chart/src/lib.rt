@@ -10,6 +10,7 @@ mod frames;
 mod json;
 mod key;
 pub mod link;
+pub mod listener;
 mod mark;
 pub mod output;
 pub mod picture;
@@ -23,6 +24,7 @@ pub mod words;
 
 pub use choice::LinkChoice;
 pub use link::{LinkShare, least_slack, link_share, link_shares};
+pub use listener::{ListenerShare, listener_share, listener_shares};
 pub use output::{to_csv, to_json, to_text};
 pub use picture::{Drawing, chart, chart_of, marked_chart};
 pub use rest::longest_open;

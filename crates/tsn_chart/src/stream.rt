@@ -15,7 +15,8 @@ pub struct StreamShare {
     pub stream: usize,
     /// When its sender starts the first frame of each period, counted from the period's start.
     pub offset: u64,
-    /// How long each of its frames is on its way: from its start at the sender until its last octet is at the receiver.
+    /// How long each of its frames is on its way: from its start at the sender until its last octet is there, at the last of
+    /// several listeners.
     pub latency: u64,
     /// When the last frame of a period has arrived, counted from the period's start.
     pub arrival: u64,
@@ -39,6 +40,8 @@ pub fn stream_share(timing: &Timing, valid: &Valid, stream: usize) -> StreamShar
     requires valid { IsValid timing.now valid.now }
     ensures { result ≡ stream_share timing.now valid.now stream }
 {
+    // The network is within its limits.
+    let _limits = timing.cycle();
     let period = timing.period(stream);
     let offset = valid.offsets()[stream];
     let arrival = offset + timing.arrival(stream);

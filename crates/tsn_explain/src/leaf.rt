@@ -90,9 +90,10 @@ impl Writer<'_> {
                 let offset = path.offset(*stream, chain);
                 let arrival = offset.wrapping_add(self.network.times(*stream).arrival);
                 let name = self.network.name(*stream);
+                let place = self.network.arrival_words(*stream);
                 let (offset, arrival) = (Grouped(offset), Grouped(arrival));
                 self.say(format_args!(
-                    "stream {name} can't start before {offset} and arrives at {arrival} or later"
+                    "stream {name} can't start before {offset} and arrives{place} at {arrival} or later"
                 ))
             }
             LowerBound::Load(link, entries) => {

@@ -73,9 +73,11 @@ impl Narrator<'_, '_> {
             self.push_then();
             if let News::DoneFrom(from) = shown.first {
                 let frames = [frame];
-                let (name, from) = (Frames(self.writer.network, &frames), Grouped(from));
+                let network = self.writer.network;
+                let (name, from) = (Frames(network, &frames), Grouped(from));
+                let place = network.arrival_words(stream);
                 self.writer
-                    .say(format_args!("{name} arrives at {from} or later"));
+                    .say(format_args!("{name} arrives{place} at {from} or later"));
             }
             self.push_clash(view, shown.first);
         }

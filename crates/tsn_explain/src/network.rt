@@ -1,4 +1,5 @@
 //! A network's names and times, where what isn't there has the name '?' and the time 0.
+use tsn_listeners::arrival_words;
 use tsn_model::{Decision, Frame, Link, Side, Triple};
 use tsn_timing::{Problem, Timing, arc_of, is_conflict};
 
@@ -114,13 +115,27 @@ impl<'a> TimedNetwork<'a> {
             .any(|shift| *shift as i128 == wanted)
     }
 
-    /// The last link of a stream's route.
+    /// The first link of a stream's route at whose end the last octet of a period arrives last.
     pub fn last_link(self, stream: usize) -> Option<usize> {
-        if stream >= self.timing.streams() {
+        let timing = self.timing;
+        if stream >= timing.streams() {
             return None;
         }
-        let last = self.timing.hops(stream) - 1;
-        Some(self.timing.route_link(stream, last))
+        for hop in 0..timing.hops(stream) {
+            if timing.plain().hop_arrival(stream, hop) == timing.arrival(stream) {
+                return Some(timing.route_link(stream, hop));
+            }
+        }
+        None
+    }
+
+    /// Where a stream arrives, in words that stand behind 'arrives', if it is heard at several ends.
+    pub fn arrival_words(self, stream: usize) -> &'static str {
+        if stream < self.timing.streams() {
+            arrival_words(self.timing, stream)
+        } else {
+            ""
+        }
     }
 
     /// The last frame of a stream's first period.

@@ -105,7 +105,8 @@ impl<'a> Writer<'a> {
         if ends <= times.period {
             let arrival = Grouped(offset.wrapping_add(times.arrival));
             let latest = Grouped(times.latest);
-            self.say(format_args!("arrive at {arrival}, past its latest instant {latest}"))
+            let place = self.network.arrival_words(stream);
+            self.say(format_args!("arrive{place} at {arrival}, past its latest instant {latest}"))
         } else {
             let is_cycle = times.period == self.network.cycle();
             let whose = if is_cycle { "the cycle" } else { "its period" };

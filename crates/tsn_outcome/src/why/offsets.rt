@@ -6,6 +6,7 @@ use crate::why::names::{Later, LinkName, StreamName};
 use crate::why::{Reason, Written};
 use std::alloc::Global;
 use std::fmt::Write;
+use tsn_listeners::arrival_words;
 use tsn_model::{Triple, Violation};
 use tsn_text::line_of;
 use tsn_timing::{Problem, Timing};
@@ -154,8 +155,9 @@ fn push_times(
         );
     }
     let arrival = offset.saturating_add(travel);
+    let place = arrival_words(timing, stream);
     write!(
         text,
-        ": with offset {offset} it arrives at {arrival}, after its latest instant {latest}"
+        ": with offset {offset} it arrives{place} at {arrival}, after its latest instant {latest}"
     )
 }
