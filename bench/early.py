@@ -4,12 +4,12 @@
 Usage: bench/early.py [FOLDER..] [--slack NS..] [--runs N] [--steps N] [--only REGEX] [--seed N] [--bin PROGRAM]
 
 Of each network of the folders (else bench/suite and bench/periods) the plan of first_plans.json is taken, and with --slack, for each
-of the numbers, the one that `plan --search learn` finds for the network with that key; `check` has to accept its certificate. What a
-link bears is what `streams` tells. In --runs runs of two cycles each frame is ready for each link at any instant between planned and as much
-sooner as the link bears, or at one of the two; queues are first in, first out, with ties at random; gates are open in windows alone. Then
-no frame may start late, or early. With a nanosecond more on the link that bears the least of those that spacing bounds, somebody has to be
-late where two neighbours on it are ready at once, or the later one sooner. There is a line for each plan; the status is 1 where a frame
-isn't on time that has to be.
+of the numbers, or where the folder has no such file, the one that `plan --search learn` finds for the network with that key; `check`
+has to accept its certificate. What a link bears is what `streams` tells. In --runs runs of two cycles each frame is ready for each link
+at any instant between planned and as much sooner as the link bears, or at one of the two; queues are first in, first out, with ties at
+random; gates are open in windows alone. Then no frame may start late, or early. With a nanosecond more on the link that bears the least
+of those that spacing bounds, somebody has to be late where two neighbours on it are ready at once, or the later one sooner. There is a
+line for each plan; the status is 1 where a frame isn't on time that has to be.
 """
 
 import argparse
@@ -23,6 +23,7 @@ import sys
 import tempfile
 from bisect import bisect_right
 
+from instants import plans_of as known_plans
 from plainly import frames_on, read, used_links
 
 ROOT = os.path.dirname(os.path.dirname(os.path.abspath(__file__)))
@@ -80,7 +81,7 @@ class Plan:
         for link, passages in self.passages.items():
             queues[link], free[link] = [], 0
             for passage in passages:
-                if passage[2] == 0:
+                if streams[passage[1]].hops[passage[2]].before is None:
                     heapq.heappush(events, (max(0, passage[0] - early(link, passage)), 0, rng.random(), link, passage))
 
         def begin(link, now):
@@ -99,14 +100,15 @@ class Plan:
             else:
                 busy.discard(link)
                 queues[link].pop(0)
-                hop, hops = streams[passage[1]].hops[passage[2]], streams[passage[1]].hops
+                hops = streams[passage[1]].hops
+                hop = hops[passage[2]]
                 late += now > passage[0]
                 sooner += now < passage[0]
                 free[link] = now + hop.occupancy
-                if passage[2] + 1 < len(hops):
-                    following = hops[passage[2] + 1]
+                for place in streams[passage[1]].onward(passage[2]):
+                    following = hops[place]
                     delay = following.start - hop.start
-                    then = (passage[0] + delay, passage[1], passage[2] + 1, passage[3], passage[4])
+                    then = (passage[0] + delay, passage[1], place, passage[3], passage[4])
                     ready = now + delay - early(following.link, then)
                     heapq.heappush(events, (ready, 0, rng.random(), following.link, then))
             begin(link, now)
@@ -145,8 +147,7 @@ def tried(plan, slack, least, runs, rng):
 
 def plans_of(folder, given, room):
     """The networks of a folder by name, each with its file, its plan's file, and what was said of it."""
-    with open(os.path.join(folder, "first_plans.json"), encoding="utf-8") as file:
-        known = json.load(file)
+    known = known_plans(folder)
     for name in sorted(it[:-5] for it in os.listdir(folder) if it.endswith(".toml") and re.search(given.only, it)):
         source = os.path.join(folder, name + ".toml")
         plan = os.path.join(room, "plan.json")
@@ -154,7 +155,7 @@ def plans_of(folder, given, room):
             with open(plan, "w", encoding="utf-8") as file:
                 json.dump({"flowspan": known[name]["flowspan"], "offsets": known[name]["offsets"]}, file)
             yield name, source, plan, "", False
-        for slack in given.slack:
+        for slack in given.slack or ([] if known else [0]):
             yield planned(name, source, slack, given, room)
 
 

@@ -65,9 +65,15 @@ class Words:
         self.network = Network(read(path))
         self.names = [it.name for it in plain.streams]
         self.ends = [(it.origin, it.end) for it in plain.links]
+        self.listeners = [[self.ends[hop.link][1] for hop in it.heard()] for it in plain.streams]
 
     def stream(self, i):
         return f"stream {self.names[i]}"
+
+    def place(self, i):
+        """Where a stream arrives, in words, if that is at several ends."""
+        ends = self.listeners[i]
+        return "" if len(ends) == 1 else " at its last listener" if len(set(ends)) > 1 else " by the slower way"
 
     def link(self, link):
         return "link {}, {} to {}".format(link, *self.ends[link])
@@ -130,7 +136,7 @@ class Words:
         it = self.network.streams[i]
         said = f"{self.stream(i)} can't start before {grouped(offset)}, and would"
         if offset + it.span <= it.period:
-            return f"{said} arrive at {grouped(offset + it.arrival)}, past its latest instant {grouped(it.latest)}"
+            return f"{said} arrive{self.place(i)} at {grouped(offset + it.arrival)}, past its latest instant {grouped(it.latest)}"
         whose = "the cycle's" if it.period == self.network.cycle else "its period's"
         return f"{said} end at {grouped(offset + it.span)}, past {whose} end at {grouped(it.period)}"
 
@@ -378,7 +384,8 @@ class StepWords:
         frame = self.words.last_frame(move[1])
         if is_told[0]:
             self.tell_limited(view)
-            self.parts.append(f"{self.words.frames([frame])} arrives at {grouped(facts[0][1])} or later{clash(self.words, view, facts[0])}")
+            said = f"{self.words.frames([frame])} arrives{self.words.place(move[1])} at {grouped(facts[0][1])} or later"
+            self.parts.append(said + clash(self.words, view, facts[0]))
         if view.contradicts(facts[0]):
             return
         if is_told[1]:
@@ -567,7 +574,8 @@ class Tree:
         if kind in ("late", "tie"):
             offset = self.offset(path, node[1], node[2])
             arrival = offset + self.network.streams[node[1]].arrival
-            said = f"{words.stream(node[1])} can't start before {grouped(offset)} and arrives at {grouped(arrival)} or later"
+            said = f"{words.stream(node[1])} can't start before {grouped(offset)} "
+            said += f"and arrives{words.place(node[1])} at {grouped(arrival)} or later"
         elif kind in ("load", "tieload"):
             said = "on " + words.load(*self.load(path, node))
         elif kind == "overrun":

@@ -3,12 +3,12 @@
 
 Usage: bench/instants.py [FOLDER..] [--tiny N] [--seed N] [--only REGEX] [--bin PROGRAM]
 
-Of each network of the folders (else bench/periods) that has a plan in its first_plans.json, and of N tiny ones (bench/tiny.py) that
-`plan` decides: on each link the octets that `gates` prints are held against those that the windows and guards ask for
-(bench/plainly.py), at each instant where either may change and beside it, so at all of the cycle. The three formats have to say the
-same. Merged lists (--merge) have to last as long as they are asked to, open class 7 wherever the others do, and the other classes
-nowhere else. `replay` with greedy background has to tell each start as it is planned, by merged lists too, and `streams` what a
-count of the lists and of the starts gives. The status is 1 where something differs.
+Of each network of the folders (else bench/periods) that has a plan in its first_plans.json, or, where the folder has no such file, that
+`plan` decides, and of N tiny ones (bench/tiny.py) that it decides: on each link the octets that `gates` prints are held against those
+that the windows and guards ask for (bench/plainly.py), at each instant where either may change and beside it, so at all of the cycle.
+The three formats have to say the same. Merged lists (--merge) have to last as long as they are asked to, open class 7 wherever the
+others do, and the other classes nowhere else. `replay` with greedy background has to tell each start as it is planned, by merged lists
+too, and `streams` what a count of the lists and of the starts gives. The status is 1 where something differs.
 """
 
 import argparse
@@ -134,7 +134,8 @@ class Look:
         for it, offset in zip(network.streams, offsets):
             line = {"stream": it.name, "offset": offset, "latency": it.latency, "arrival": offset + it.arrival}
             line |= {"to_latest": it.latest - offset - it.arrival, "span": it.span, "to_period_end": it.period - offset - it.span}
-            wanted.append(line | ({"period": it.period, "frames": len(it.shifts) * it.period // network.cycle} if several else {}))
+            line |= {"period": it.period, "frames": len(it.shifts) * it.period // network.cycle} if several else {}
+            wanted.append(line | ({"listeners": listeners(network, it, offset)} if len(it.heard()) > 1 else {}))
         for link, it in lists.items():
             lasts = {octet: sum(interval for other, interval in it["entries"] if other == octet) for octet in (0x80, 0x00, 0x7F)}
             line = {"link": link, "from": it["from"], "to": it["to"], "scheduled": lasts[0x80], "guard": lasts[0x00], "open": lasts[0x7F]}
@@ -156,6 +157,16 @@ class Look:
         self.replayed(network, offsets, net, plan, "--merge", str(MERGES[-2]))
 
 
+def listeners(network, stream, offset):
+    """What the listeners of a stream get, each by its own link."""
+    found = []
+    for hop in stream.heard():
+        arrival = offset + hop.arrival + stream.spread
+        line = {"listener": network.links[hop.link].end, "link": hop.link, "latency": hop.arrival, "arrival": arrival}
+        found.append(line | {"to_latest": stream.latest - arrival})
+    return found
+
+
 def longest_open(entries):
     """The longest open time of a list that goes on for ever, at most its cycle."""
     if len(entries) == 1:
@@ -170,21 +181,40 @@ def slack(network, offsets, link):
     """How much sooner than planned frames may be ready for a link: less than each is planned after another, and than each took to get there."""
     begins = Gates(network, offsets, link).begins
     spaces = [after - begin for begin, after in zip(begins, begins[1:] + [begins[0] + network.cycle])]
-    delays = [hop.start - before.start for it in network.streams for before, hop in zip(it.hops, it.hops[1:]) if hop.link == link]
+    onward = [(it, hop) for it in network.streams for hop in it.hops if hop.link == link and hop.before is not None]
+    delays = [hop.start - it.hops[hop.before].start for it, hop in onward]
     return min(spaces + delays) - 1
 
 
-def planned(folders, only, room):
-    """The networks of some folders with their plans."""
+def plans_of(folder):
+    """The plan of each network of a folder by its name; none where the folder has no file of plans."""
+    path = os.path.join(folder, "first_plans.json")
+    if not os.path.exists(path):
+        return {}
+    with open(path, encoding="utf-8") as file:
+        return json.load(file)
+
+
+def planned(folders, only, program, room):
+    """The networks of some folders with their plans; those that `plan` decides, where a folder has no plans."""
+    path = os.path.join(room, "plan.json")
     for folder in folders:
-        with open(os.path.join(folder, "first_plans.json"), encoding="utf-8") as file:
-            plans = json.load(file)
-        for name, plan in sorted(plans.items()):
-            if plan.get("offsets") and re.search(only, name):
-                path = os.path.join(room, "plan.json")
+        plans = plans_of(folder)
+        for name in sorted(it.removesuffix(".toml") for it in os.listdir(folder) if it.endswith(".toml")):
+            net, plan = os.path.join(folder, name + ".toml"), plans.get(name, {})
+            if not re.search(only, name):
+                continue
+            if plan.get("offsets"):
                 with open(path, "w", encoding="utf-8") as file:
                     json.dump({"flowspan": plan["flowspan"], "offsets": plan["offsets"]}, file)
-                yield name, os.path.join(folder, name + ".toml"), path
+            if plan.get("offsets") or not plans and is_planned(program, net, path):
+                yield name, net, path
+
+
+def is_planned(program, net, plan):
+    """Whether `plan` finds the best schedule, and writes it."""
+    words = [program, "plan", net, "--plan", plan]
+    return subprocess.run(words, stdin=subprocess.DEVNULL, stdout=subprocess.DEVNULL, stderr=subprocess.DEVNULL).returncode == 0
 
 
 def drawn(count, seed, program, room):
@@ -193,7 +223,7 @@ def drawn(count, seed, program, room):
     for at in range(count):
         said, _ = tiny.drawn(random.Random(f"{seed} {at}"))
         tiny.written(said, net)
-        if subprocess.run([program, "plan", net, "--plan", plan], stdout=subprocess.DEVNULL, stderr=subprocess.DEVNULL).returncode == 0:
+        if is_planned(program, net, plan):
             yield f"tiny {seed} {at}", net, plan
 
 
@@ -208,7 +238,7 @@ def main():
     look, plans, wrong = Look(given.bin), 0, 0
     folders = given.folders or ([] if given.tiny else [os.path.join(ROOT, "bench", "periods")])
     with tempfile.TemporaryDirectory() as room:
-        for source in (planned(folders, given.only, room), drawn(given.tiny, given.seed, given.bin, room)):
+        for source in (planned(folders, given.only, given.bin, room), drawn(given.tiny, given.seed, given.bin, room)):
             for name, net, plan in source:
                 plans += 1
                 try:

@@ -19,12 +19,15 @@ class Link:
 
 @dataclass(frozen=True)
 class Hop:
-    """A link of a route: when a frame starts on it, counted from its start on the first, and how long it occupies and keeps it."""
+    """A link of a route, and the place of the hop that it continues, none where the talker sends. Counted from when the talker starts a
+    frame: when the frame starts here, how long it occupies and keeps the link, and when it is at its end."""
 
     link: int
+    before: int | None
     start: int
     occupancy: int
     kept: int
+    arrival: int
 
 
 @dataclass
@@ -35,9 +38,18 @@ class Stream:
     period: int
     hops: list
     shifts: list
+    spread: int
     latency: int
     arrival: int
     span: int
+
+    def onward(self, place):
+        """The places of the hops that continue one."""
+        return [other for other, it in enumerate(self.hops) if it.before == place]
+
+    def heard(self):
+        """The hops that none continues: each ends at a listener."""
+        return [it for place, it in enumerate(self.hops) if not self.onward(place)]
 
 
 @dataclass
@@ -66,33 +78,54 @@ def network_of(said):
             delay.append(it["prop"])
     network = Network(cycle, slack, links)
     for it in said["stream"]:
-        route = [number[pair] for pair in zip(it["route"], it["route"][1:])]
+        route = [number[pair] for pair in pairs_of(it)]
         network.streams.append(stream_of(it, cycle, slack, route, links, delay, proc))
     return network
 
 
+def routes_of(said):
+    """The routes of a stream in a document: the one of `route`, or those of `routes`."""
+    return said["routes"] if "routes" in said else [said["route"]]
+
+
+def pairs_of(said):
+    """The neighbours on a stream's routes, each pair once, in the order in which they are named first: the links of its tree."""
+    return list(dict.fromkeys(pair for route in routes_of(said) for pair in zip(route, route[1:])))
+
+
+def hops_of(octets, slack, route, links, delay, proc):
+    """The hops of a tree, each of which begins at the talker or where one before it ends."""
+    hops, entered = [], {links[route[0]].origin: None}
+    for place, link in enumerate(route):
+        octet_time, before = links[link].octet_time, entered[links[link].origin]
+        start = 0 if before is None else hops[before].arrival + proc[links[link].origin]
+        occupancy = (octets + 20) * octet_time
+        hops.append(Hop(link, before, start, occupancy, max(occupancy, slack + 1), start + (octets + 8) * octet_time + delay[link]))
+        entered.setdefault(links[link].end, place)
+    return hops
+
+
 def stream_of(said, cycle, slack, route, links, delay, proc):
     """A stream with its times."""
-    hops, start, arrival = [], 0, 0
-    for link in route:
-        octet_time = links[link].octet_time
-        occupancy = (said["octets"] + 20) * octet_time
-        hops.append(Hop(link, start, occupancy, max(occupancy, slack + 1)))
-        arrival = start + (said["octets"] + 8) * octet_time + delay[link]
-        start = arrival + proc[links[link].end]
+    hops = hops_of(said["octets"], slack, route, links, delay, proc)
     period, burst = said.get("period", cycle), said.get("frames", 1)
     pace = max(it.kept for it in hops)
     spread = (burst - 1) * pace
+    latency = max(it.arrival for it in hops)
+    release, latest = said.get("release", 0), said.get("latest", cycle)
+    if "offset" in said:
+        release, latest = said["offset"], said["offset"] + latency + spread
     return Stream(
         name=said["name"],
-        release=said.get("release", 0),
-        latest=said.get("latest", cycle),
+        release=release,
+        latest=latest,
         period=period,
         hops=hops,
         shifts=[turn * period + place * pace for turn in range(cycle // period) for place in range(burst)],
-        latency=arrival,
-        arrival=arrival + spread,
-        span=max([arrival + spread] + [it.start + spread + it.kept for it in hops]),
+        spread=spread,
+        latency=latency,
+        arrival=latency + spread,
+        span=max([latency] + [it.start + it.kept for it in hops]) + spread,
     )
 
 

@@ -83,8 +83,8 @@ class Program:
 
 
 def commands(folder):
-    """Each command, over the two streams, the star of ten, and streams of three periods with a burst."""
-    for name in ("two-streams", "ten-stream-star", "three-periods"):
+    """Each command, over the two streams, the star of ten, streams of three periods with a burst, and some with several listeners."""
+    for name in ("two-streams", "ten-stream-star", "three-periods", "alarm-and-drive"):
         network = os.path.join(EXAMPLES, name + ".toml")
         plan, cert = os.path.join(folder, name + ".plan"), os.path.join(folder, name + ".cert")
         subprocess.run([PROGRAM, "plan", network, "--plan", plan, "--cert", cert], check=True, capture_output=True)

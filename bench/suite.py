@@ -4,14 +4,14 @@
 Usage: bench/suite.py [FOLDER..] [--bin PROGRAM] [--search HOW] [--steps N] [--workers W] [--plans FILE] [--only REGEX]
                       [--beside PROGRAM]
 
-There is a table for each folder: unless others are given, for bench/suite, whose streams send one frame a cycle, and for
-bench/periods, whose streams have periods and bursts. It has a line for each network file: what `plan` says and in how many
-seconds from start to end, what `check` says of its certificate, and what `prove` says of the plan it wrote (the best one, where
-it was stopped). Each plan that is decided is compared with the one that an object of JSON (--plans, else first_plans.json in the
-folder, if it is there) has by the network's name: those were found by unproved searches that learn, of other kinds. Each table
-ends with how many were decided and how many plans were proved. The status is 1 where a certificate or a proof is refused or a
-plan is another one. Another program that plans (--beside) is called with each network right after `plan`, and its seconds are
-told too.
+There is a table for each folder: unless others are given, for bench/suite, whose streams send one frame a cycle, for bench/periods,
+whose streams have periods and bursts, and for bench/trees, whose streams have several listeners, or two ways to one. It has a line for
+each network file: what `plan` says and in how many seconds from start to end, what `check` says of its certificate, and what `prove`
+says of the plan it wrote (the best one, where it was stopped). Each plan that is decided is compared with the one that an object of
+JSON (--plans, else first_plans.json in the folder, if it is there) has by the network's name: those were found by unproved searches
+that learn, of other kinds. Each table ends with how many were decided, how many certificates were accepted and how many plans were
+proved. The status is 1 where a certificate or a proof is refused or a plan is another one. Another program that plans (--beside) is
+called with each network right after `plan`, and its seconds are told too.
 """
 
 import argparse
@@ -24,7 +24,7 @@ import tempfile
 import time
 
 ROOT = os.path.dirname(os.path.dirname(os.path.abspath(__file__)))
-FOLDERS = [os.path.join(ROOT, "bench", it) for it in ("suite", "periods")]
+FOLDERS = [os.path.join(ROOT, "bench", it) for it in ("suite", "periods", "trees")]
 
 
 def said(words):
@@ -47,7 +47,9 @@ def tried(program, network, words, room):
         right = right and check_status == 0
     if os.path.exists(plan):
         proved, proof_status, proof_seconds = said([program, "prove", network, plan, "--cert", proof])
-        right = right and proof_status in (0, 5)
+        # (of a search that was stopped `prove` may find a better plan)
+        better = line.startswith("stopped") and proved.startswith("undercut")
+        right = right and (proof_status in (0, 5) or better)
         if proof_status == 0:
             accepted, accept_status, _ = said([program, "check", network, plan, proof])
             right = right and accept_status == 0 and accepted.startswith("accepted")
@@ -80,13 +82,14 @@ def run_folder(folder, given, words):
     """Prints the table of a folder, and gives the networks at which something isn't as it should be."""
     known = known_plans(given.plans or os.path.join(folder, "first_plans.json"))
     names = sorted(it for it in os.listdir(folder) if it.endswith(".toml") and re.search(given.only, it))
-    decided, proofs, total, beside, wrong = 0, 0, 0.0, 0.0, []
+    decided, accepted, proofs, total, beside, wrong = 0, 0, 0, 0.0, 0.0, []
     more = ["Beside"] if given.beside else []
     print("| " + " | ".join(["Network", "`plan`", "Seconds", "`check`", "`prove`", "Seconds", *more]) + " |\n" + "|---" * (6 + len(more)) + "|", flush=True)
     with tempfile.TemporaryDirectory() as room:
         for name in names:
             line, seconds, checked, proved, proof_seconds, right, found = tried(given.bin, os.path.join(folder, name), words, room)
             decided += not line.startswith("stopped")
+            accepted += checked.startswith("accepted")
             proofs += proved.startswith("proved")
             total += seconds
             other = ""
@@ -99,7 +102,7 @@ def run_folder(folder, given, words):
             if not right:
                 wrong.append(name)
             print(f"| {name[:-5]} | `{line}` | {seconds:.2f} | `{checked}` | `{proved}` | {proof_seconds:.2f} |{other}", flush=True)
-    print(f"\n{decided} of {len(names)} decided, {proofs} plans proved, {total:.1f} s for the plans")
+    print(f"\n{decided} of {len(names)} decided, {accepted} certificates accepted, {proofs} plans proved, {total:.1f} s for the plans")
     if given.beside:
         print(f"{beside:.1f} s by the other program")
     return wrong

@@ -1,5 +1,5 @@
 #!/usr/bin/env python3
-"""Tiny networks drawn at random, with periods, bursts and slacks, by the program and by trying every schedule.
+"""Tiny networks drawn at random, with several listeners, periods, bursts and slacks, by the program and by trying every schedule.
 
 Usage: bench/tiny.py [--count N] [--seed N] [--lists N] [--changed N] [--bin PROGRAM] [--keep FOLDER]
 
@@ -25,7 +25,7 @@ import tempfile
 from collections import Counter
 from itertools import permutations
 
-from plainly import OCTET_TIME, flowspan, judged, network_of, overlaps, read
+from plainly import OCTET_TIME, flowspan, judged, network_of, overlaps, read, routes_of
 
 ROOT = os.path.dirname(os.path.dirname(os.path.abspath(__file__)))
 sys.path.append(os.path.join(ROOT, "bench", "arguments"))
@@ -43,20 +43,46 @@ MOST_TRIED = 1_000_000
 
 
 def bridges_of(rng):
-    """The cables of one to three bridges in a row, each with stations of its own, and the stations."""
+    """The cables of one to three bridges in a row or a ring, each with stations of its own, some with a second port; and the stations."""
     count = rng.choice([1, 1, 2, 2, 3])
     stations, cables = [], [(f"S{at}", f"S{at + 1}") for at in range(count - 1)]
+    if count == 3 and rng.random() < 0.5:
+        cables.append(("S2", "S0"))
     for at in range(count):
         for _ in range(rng.randint(2, 3) if count == 1 else rng.randint(1, 2)):
-            stations.append((f"A{len(stations)}", at))
-            cables.append((stations[-1][0], f"S{at}"))
+            stations.append(f"A{len(stations)}")
+            cables.append((stations[-1], f"S{at}"))
+            if count > 1 and rng.random() < 0.3:
+                cables.append((stations[-1], f"S{rng.choice([it for it in range(count) if it != at])}"))
     return count, stations, cables
 
 
-def route_between(sender, receiver):
-    (begin, first), (end, last) = sender, receiver
-    step = 1 if first <= last else -1
-    return [begin] + [f"S{at}" for at in range(first, last + step, step)] + [end]
+def ways_from(talker, beside, rng):
+    """A way from a station to each bridge, such that no bridge is entered by two of them."""
+    ways, todo = {talker: [talker]}, [talker]
+    while todo:
+        here = todo.pop(rng.randrange(len(todo)))
+        for there in rng.sample(beside[here], len(beside[here])):
+            if there.startswith("S") and there not in ways:
+                ways[there] = ways[here] + [there]
+                todo.append(there)
+    return ways
+
+
+def way(talker, listener, beside, rng):
+    """The key `route`."""
+    ways = ways_from(talker, beside, rng)
+    return {"route": ways[rng.choice(beside[listener])] + [listener]}
+
+
+def tree(talker, listeners, beside, rng):
+    """The key `routes`, to some listeners, mostly by both ports where one has two."""
+    ways, routes = ways_from(talker, beside, rng), []
+    for listener in listeners:
+        ports = beside[listener] if rng.random() < 0.7 else [rng.choice(beside[listener])]
+        routes += [ways[port] + [listener] for port in ports]
+    rng.shuffle(routes)
+    return {"routes": routes}
 
 
 def drawn(rng):
@@ -76,18 +102,24 @@ def drawn_once(rng):
     rates = rng.choice([[1000], [1000], [1000, 100]]) if step == 96 else [1000]
     said = {
         "node": [{"name": f"S{at}", "kind": "bridge", "proc": step * rng.choice([0, 0, 1, 7, 20])} for at in range(count)]
-        + [{"name": name, "kind": "station"} for name, _ in stations],
+        + [{"name": name, "kind": "station"} for name in stations],
         "link": [{"a": a, "b": b, "mbps": rng.choice(rates), "prop": step * rng.choice([0, 0, 1, 3])} for a, b in cables],
         "stream": [],
     }
     rng.shuffle(said["link"])
     hot = rng.choice(stations)
+    beside = {name: [a if b == name else b for a, b in cables if name in (a, b)] for cable in cables for name in cable}
     pairs = list(permutations(stations, 2))
     hot_pairs = [it for it in pairs if it[1] == hot]
     for at in range(rng.randint(2, 4 if step == 96 else 3)):
-        sender, receiver = rng.choice(hot_pairs if rng.random() < 0.6 else pairs)
+        talker, listener = rng.choice(hot_pairs if rng.random() < 0.6 else pairs)
+        others = [it for it in stations if it not in (talker, listener)]
         octets = rng.choice(LENGTHS[step][:4] if rng.random() < 0.7 else LENGTHS[step])
-        said["stream"].append({"name": f"t{at}", "octets": octets, "route": route_between(sender, receiver)})
+        if rng.random() < 0.5:
+            route = tree(talker, [listener, *rng.sample(others, rng.randint(0, min(3, len(others))))], beside, rng)
+        else:
+            route = way(talker, listener, beside, rng)
+        said["stream"].append({"name": f"t{at}", "octets": octets} | route)
     timed(said, step, rng)
     if rng.random() < 0.3:
         slackened(said, step, rng)
@@ -96,22 +128,14 @@ def drawn_once(rng):
 
 def slackened(said, step, rng):
     """Gives a network a slack, for which frames keep their links for a multiple of the step; less than each delay before another hop."""
-    longest = min((delay for it in said["stream"] for delay in delays_of(said, it)[:-1]), default=0) // step
+    streams = network_of(said).streams
+    longest = min(hop.start - it.hops[hop.before].start for it in streams for hop in it.hops if hop.before is not None) // step
     if longest:
         said["slack"] = step * rng.randint(1, min(longest, 30)) - 1
 
 
-def delays_of(said, stream):
-    """How long a stream's frame takes from its start on each link until the next node may start it."""
-    cable = {frozenset((it["a"], it["b"])): it for it in said["link"]}
-    proc = {it["name"]: it.get("proc", 0) for it in said["node"]}
-    pairs = list(zip(stream["route"], stream["route"][1:]))
-    links = [cable[frozenset(pair)] for pair in pairs]
-    return [(stream["octets"] + 8) * OCTET_TIME[it["mbps"]] + it["prop"] + proc[end] for it, (_, end) in zip(links, pairs)]
-
-
 def timed(said, step, rng):
-    """Gives a network that is drawn its cycle, and its streams periods, bursts, releases and latest instants."""
+    """Gives a network that is drawn its cycle, and its streams periods, bursts, releases and latest instants, or an offset."""
     longest = max(least_span(said, it) for it in said["stream"])
     parts = rng.choice([1, 2, 2, 3, 4, 6])
     shortest = max(1, int(longest * rng.uniform(1.0, 3.0)) // step) * step
@@ -123,6 +147,9 @@ def timed(said, step, rng):
             it["period"] = period
         if rng.random() < 0.35:
             it["frames"] = rng.randint(1, 3)
+        if rng.random() < 0.08:
+            it["offset"] = step * rng.randint(0, period // step // 3)
+            continue
         if rng.random() < 0.25:
             it["release"] = step * rng.randint(0, period // step // 3)
         if rng.random() < 0.25:
@@ -132,7 +159,7 @@ def timed(said, step, rng):
 def least_span(said, stream):
     """About how long one frame of a stream is on its way."""
     rate = {frozenset((it["a"], it["b"])): OCTET_TIME[it["mbps"]] for it in said["link"]}
-    return sum((stream["octets"] + 20) * rate[frozenset(pair)] for pair in zip(stream["route"], stream["route"][1:]))
+    return max(sum((stream["octets"] + 20) * rate[frozenset(pair)] for pair in zip(it, it[1:])) for it in routes_of(stream))
 
 
 def written(said, path):
@@ -286,11 +313,27 @@ def like_it(said, step, rng):
         other[key] += step * rng.choice([-1, 1, 6, -6]) * rng.randint(1, 4)
         other[key] = max(step, other[key])
     else:
+        it.pop("offset", None)
         it[key] = step * rng.randint(1, other["cycle"] // step)
     return other
 
 
 # ---- by the program
+
+
+def ends_of(network, stream):
+    """By how many links each listener of a stream is reached."""
+    return Counter(network.links[hop.link].end for hop in stream.heard())
+
+
+# What a network has a stream of.
+KINDS = {
+    "several frames of a stream": lambda network, it: len(it.shifts) > 1,
+    "a stream that runs already": lambda network, it: it.release + it.arrival == it.latest,
+    "several listeners of a stream": lambda network, it: len(ends_of(network, it)) > 1,
+    "a listener that is reached twice": lambda network, it: max(ends_of(network, it).values()) > 1,
+    "a talker that sends by two ports": lambda network, it: sum(hop.before is None for hop in it.hops) > 1,
+}
 
 
 class Look:
@@ -426,7 +469,8 @@ class Look:
         self.tally["networks with a schedule" if first else "networks without"] += 1
         self.tally["frames"] += sum(len(it.shifts) for it in network.streams)
         self.tally["networks with a slack"] += "slack" in said
-        self.tally["networks with several frames of a stream"] += any(len(it.shifts) > 1 for it in network.streams)
+        for kind, holds in KINDS.items():
+            self.tally[f"networks with {kind}"] += any(holds(network, it) for it in network.streams)
         cert = self.try_plan(at, net, network, first, rng.choice(["file", "learn", "auto"]))
         self.try_lists(at, net, network, first, step, rng)
         if cert:

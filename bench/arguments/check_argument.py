@@ -3,7 +3,8 @@
 
 check_argument.py NET PLAN CERT    prints the line that `tsn check` prints of these files, and ends with its status
 
-The network has to be one that isn't refused. Its streams may have a `period`, `frames` and an `offset`, as docs/definitions.md has them.
+The network has to be one that isn't refused. Its streams may have `routes`, a `period`, `frames` and an `offset`, as docs/definitions.md
+has them.
 Certificates of formats 1 and 2 aren't judged here, and end with status 2.
 docs/formats.md and docs/definitions.md say what arguments are; bench/arguments/mutate.py runs both checkers side by side.
 """
@@ -117,18 +118,28 @@ class Network:
         return self.begin(frame, link) + self.streams[frame[0]].kept[link]
 
 
+def links_named(text):
+    """The pairs of neighbours on a stream's routes, each once, as the routes come to them. A bridge is entered by one of them."""
+    found = []
+    for route in text.get("routes", [text.get("route")]):
+        found += [pair for pair in zip(route, route[1:]) if pair not in found]
+    return found
+
+
 class Stream:
     def __init__(self, text, nodes, links, cycle, slack):
         self.release, self.latest = text.get("release", 0), text.get("latest", cycle)
         self.period, burst = text.get("period", cycle), text.get("frames", 1)
         self.start, self.kept = {}, {}
-        route, at, ends = text["route"], 0, []
-        for here, there in zip(route, route[1:]):
+        ready, ends, heard = {}, [], []
+        for here, there in links_named(text):
             link, octet, prop = links[here, there]
+            at = ready.get(here, 0)
             self.start[link], self.kept[link] = at, max((text["octets"] + 20) * octet, slack + 1)
             ends.append(at + self.kept[link])
-            self.arrival = at + (text["octets"] + 8) * octet + prop
-            at = self.arrival + nodes[there].get("proc", 0)
+            heard.append(at + (text["octets"] + 8) * octet + prop)
+            ready.setdefault(there, heard[-1] + nodes[there].get("proc", 0))
+        self.arrival = max(heard)
         pace = max(self.kept.values())
         spread = (burst - 1) * pace
         self.shifts = {turn + place * pace for turn in range(0, cycle, self.period) for place in range(burst)}
