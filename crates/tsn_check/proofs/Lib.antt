@@ -6,6 +6,6 @@ pub mod Shifts
 mod Walks
 mod Chains
 mod Firsts
-mod Kept
+mod Branching
 mod Ties
 mod Fitting

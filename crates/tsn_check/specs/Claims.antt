@@ -4,7 +4,6 @@ use Rattle.tsn_model.specs.Network.{Network, IsWellFormed}
 use Rattle.tsn_model.specs.Schedule.{target_of}
 use Rattle.tsn_cert.specs.declared.plan.Plan.{Plan}
 use Rattle.tsn_cert.specs.declared.plan.TheConstants.{MAX_TIME}
-use Rattle.tsn_conflict.specs.Kept.{AreConflictsOf}
 use Rattle.tsn_check.specs.Plans.{IsPlanRight, offsets_in}
 use Rattle.tsn_check.specs.declared.claim.Claim.{Claim}
 
@@ -14,8 +13,8 @@ pub record IsClaim (network : Network) (plan : Plan) (target : ℕ) : Type 0 whe
   pub aim : target ≡ target_of network (offsets_in plan)
   pub small : target ≤ MAX_TIME
 
--- the conflicts are those of the network, the target is within its limit, and the plan is right
+-- the network is within its limits, and so is the target; and the plan is right
 pub record IsWellPosed (claim : Claim) : Type 0 where
-  pub kept : AreConflictsOf claim.timing.now claim.conflicts.now
+  pub formed : IsWellFormed claim.timing.now
   pub small : claim.target ≤ MAX_TIME
   pub right : IsPlanRight claim.timing.now claim.plan.now

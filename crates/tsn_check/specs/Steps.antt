@@ -1,10 +1,10 @@
 -- What a node is found to be at the end of a path, and where the walk goes on from it.
-use Rattle.std.specs.Prelude.{◌≡◌, ◌≢◌, ℕ, ◌*◌, ◌≤◌, List, [], ◌∷◌, length, map, All, ℤ, pos, ◌+ℤ◌, ◌≤ℤ◌, Result, Ok, Err, Option, Some, None, Contains}
+use Rattle.std.specs.Prelude.{◌≡◌, ◌≢◌, ℕ, ◌*◌, ◌≤◌, List, [], ◌∷◌, length, map, All, ℤ, pos, ◌+ℤ◌, ◌≤ℤ◌, Result, Ok, Err, Option, Some, None}
 use Rattle.tsn_model.specs.declared.Decision.{Decision}
 use Rattle.tsn_model.specs.declared.bounds.TheConstants.{MAX_OCCUPANCY, MAX_SPAN, MAX_WORK}
 use Rattle.tsn_model.specs.Network.{Network}
+use Rattle.tsn_model.specs.Schedule.{IsConflict}
 use Rattle.tsn_model.specs.Certificate.{Entry, IsFrameOn, LeadsTo, AreEntries, sum_on, least, head_of, tail_of, work_of, Leaf, Proves, AreChains, Node, split_node, leaf_node, tie_node, IsNodeShown}
-use Rattle.tsn_conflict.specs.Kept.{Kept}
 use Rattle.tsn_check.specs.Faults.{IsWrongEntry, IsFirstWrong, IsWrongPart, IsShort, IsWrongNode}
 use Rattle.tsn_check.specs.declared.why.Shortfall.{Shortfall}
 use Rattle.tsn_check.specs.declared.why.NodeFault.{NodeFault}
@@ -70,8 +70,8 @@ FindsLoad network path link entries (Err fault) = IsFirstWrong network path link
 
 -- ---- branches
 
--- if the node is a branch, it is on one of the conflicts that are kept
-abbrev pub IsBranchOf : Kept → Node → Type 0
-IsBranchOf kept (split_node triple) = Contains kept.triples triple
-IsBranchOf kept (leaf_node proof) = Unit {0}
-IsBranchOf kept (tie_node proof chains) = Unit {0}
+-- if the node is a branch, it is on a conflict
+abbrev pub IsBranchOf : Network → Node → Type 0
+IsBranchOf network (split_node triple) = IsConflict network triple
+IsBranchOf network (leaf_node proof) = Unit {0}
+IsBranchOf network (tie_node proof chains) = Unit {0}

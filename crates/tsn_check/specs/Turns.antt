@@ -1,15 +1,14 @@
 -- The path of a walk in the code: its decisions, each with its arc.
---     IsTurn, decisions, arcs          a decision with its arc, and those of a path
---     IsTurnOf                         a decision of one of the conflicts that are kept
+--     IsTurn, decisions, arcs          a decision on a conflict with its arc, and those of a path
 --     IsWalk                           a chain that was walked back from its end
 --     places_at                        the open places, told by the path
-use Rattle.std.specs.Prelude.{◌≡◌, ℕ, ◌<◌, List, [], ◌∷◌, map, Bool, if◌then◌else◌, All, Contains, pos, ◌+ℤ◌, ◌≤ℤ◌}
+use Rattle.std.specs.Prelude.{◌≡◌, ℕ, ◌<◌, List, [], ◌∷◌, map, Bool, if◌then◌else◌, All, pos, ◌+ℤ◌, ◌≤ℤ◌}
 use Rattle.tsn_model.specs.declared.Arc.{Arc}
 use Rattle.tsn_model.specs.declared.Decision.{Decision}
 use Rattle.tsn_model.specs.Network.{Network, stream_count}
+use Rattle.tsn_model.specs.Schedule.{IsConflict}
 use Rattle.tsn_model.specs.Arcs.{arc_of, IsChainTo, start_of, chain_sum}
 use Rattle.tsn_model.specs.Places.{pending}
-use Rattle.tsn_conflict.specs.Kept.{Kept, AreConflictsOf}
 use Rattle.tsn_check.specs.declared.path.Turn.{Turn}
 use Rattle.tsn_timing.specs.declared.arc.ChainSum.{ChainSum}
 use Rattle.tsn_timing.specs.Arcs.{IsSmall}
@@ -17,23 +16,15 @@ use Rattle.tsn_timing.specs.Arcs.{IsSmall}
 abbrev pub IsSmallTurn : Turn → Type 0
 IsSmallTurn turn = IsSmall turn.arc
 
--- a decision with its arc, which begins at a stream of the network
+-- a decision on a conflict, with its arc, which begins at a stream of the network
 pub record IsTurn (network : Network) (turn : Turn) : Type 0 where
+  pub conflict : IsConflict network turn.decision.triple
   pub same_arc : turn.arc ≡ arc_of network turn.decision
   pub begins : turn.arc.from < stream_count network
   pub small : IsSmall turn.arc
 
 abbrev pub AreTurns : Network → List Turn → Type 0
 AreTurns network turns = All (IsTurn network) turns
-
--- a decision of one of the conflicts that are kept, with its arc in the network that they are of
-pub record IsTurnOf (kept : Kept) (turn : Turn) : Type 0 where
-  pub conflict : Contains kept.triples turn.decision.triple
-  pub same_arc : (network : Network) → AreConflictsOf network kept → turn.arc ≡ arc_of network turn.decision
-  pub small : IsSmall turn.arc
-
-abbrev pub AreTurnsOf : Kept → List Turn → Type 0
-AreTurnsOf kept turns = All (IsTurnOf kept) turns
 
 abbrev pub decisions : List Turn → List Decision
 decisions turns = map (λ turn. turn.decision) turns

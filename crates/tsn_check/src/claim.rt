@@ -1,13 +1,11 @@
 //! What the nodes of a certificate are to show.
 use tsn_cert::Plan;
-use tsn_conflict::sharing::Conflicts;
 use tsn_timing::Timing;
 
 /// That no valid schedule has a flowspan below the target, but for those on the path of a tie with the plan.
 #[derive(Clone, Copy)]
 pub struct Claim<'a> {
     pub timing: &'a Timing,
-    pub conflicts: &'a Conflicts,
     /// In nanoseconds.
     pub target: u64,
     pub plan: &'a Plan,

@@ -9,7 +9,7 @@ ghost use Rattle.tsn_model.specs.Certificate.{Leaf as TreeLeaf, IsNodeShown, lea
 ghost use Rattle.tsn_check.specs.Claims.{IsWellPosed};
 ghost use Rattle.tsn_check.specs.Plans.{offsets_in};
 ghost use Rattle.tsn_check.specs.Faults.{IsWrongTree};
-ghost use Rattle.tsn_check.specs.Turns.{AreTurns, AreTurnsOf, decisions, places_at};
+ghost use Rattle.tsn_check.specs.Turns.{AreTurns, decisions, places_at};
 ghost use Rattle.tsn_check.specs.Steps.{Judges, FindsBound, IsBranchOf};
 
 use crate::claim::Claim;
@@ -21,9 +21,8 @@ use crate::why::{NodeFault, Shortfall, TreeFault};
 use std::alloc::Global;
 use tsn_cert::plan::MAX_TIME;
 use tsn_cert::{Leaf, LowerBound, Node};
-use tsn_conflict::sharing::Conflicts;
 use tsn_model::Side;
-use tsn_timing::Timing;
+use tsn_timing::{Timing, is_conflict};
 
 /// Whether the bound is at least the target; else what it is.
 fn judge_bound(
@@ -81,13 +80,12 @@ fn judge(claim: &Claim<'_>, path: &[Turn], node: &Node) -> Result<(), NodeFault>
 {
     let Claim {
         timing,
-        conflicts,
         target,
         plan,
     } = *claim;
     match node {
         Node::Branch(triple) => {
-            if conflicts.has(*triple) {
+            if is_conflict(timing, *triple) {
                 Ok(())
             } else {
                 Err(NodeFault::NotConflict)
@@ -103,10 +101,10 @@ fn judge(claim: &Claim<'_>, path: &[Turn], node: &Node) -> Result<(), NodeFault>
 
 /// Goes on from a node at the end of the path to the next open place: a branch's left side, or past a leaf. False where the
 /// tree is at its end.
-fn go_on(conflicts: &Conflicts, path: &mut Vec<Turn>, node: &Node) -> Result<bool, TreeFault>
-    requires turns { AreTurnsOf conflicts.now path.old.items }
-    requires conflict { IsBranchOf conflicts.now (tree_node node.now) }
-    ensures turns { OnOk result (AreTurnsOf conflicts.now path.new.items) }
+fn go_on(timing: &Timing, path: &mut Vec<Turn>, node: &Node) -> Result<bool, TreeFault>
+    requires turns { AreTurns timing.now path.old.items }
+    requires conflict { IsBranchOf timing.now (tree_node node.now) }
+    ensures turns { OnOk result (AreTurns timing.now path.new.items) }
     ensures places { IfOk result (λ is_open.
         next_places (decisions path.old.items ∷ pending (decisions path.old.items)) (tree_node node.now)
         ≡ places_at is_open (decisions path.new.items)) }
@@ -114,10 +112,10 @@ fn go_on(conflicts: &Conflicts, path: &mut Vec<Turn>, node: &Node) -> Result<boo
 {
     match node {
         Node::Branch(triple) => {
-            path.push(turn_to(conflicts, *triple, Side::Left))?;
+            path.push(turn_to(timing, *triple, Side::Left))?;
             Ok(true)
         }
-        Node::Leaf(_) | Node::Tie(..) => Ok(next_place(conflicts, path)),
+        Node::Leaf(_) | Node::Tie(..) => Ok(next_place(timing, path)),
     }
 }
 
@@ -137,7 +135,7 @@ pub fn check_tree(alloc: Global, claim: &Claim<'_>, nodes: &[Node]) -> Result<()
         if let Err(fault) = judge(claim, &path, node) {
             return Err(TreeFault::Node(number, fault));
         }
-        open = go_on(claim.conflicts, &mut path, node)?;
+        open = go_on(claim.timing, &mut path, node)?;
     }
     if open {
         Err(TreeFault::Unfinished(nodes.len()))

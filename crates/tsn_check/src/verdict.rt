@@ -17,7 +17,6 @@ use crate::tree::check_tree;
 use crate::why::TreeFault;
 use std::alloc::Global;
 use tsn_cert::{Cert, Format, Node, Plan};
-use tsn_conflict::conflicts;
 use tsn_timing::{Problem, Timing};
 
 /// What an accepted certificate shows.
@@ -71,10 +70,8 @@ pub fn judge_tree(
     if stated != wanted {
         return Err(TreeFault::Target { stated, wanted });
     }
-    let conflicts = conflicts(alloc, timing)?;
     let claim = Claim {
         timing,
-        conflicts: &conflicts,
         target: wanted,
         plan,
     };

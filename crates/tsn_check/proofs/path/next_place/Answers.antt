@@ -10,7 +10,7 @@ use Rattle.tsn_model.specs.declared.Decision.{Decision}
 use Rattle.tsn_model.specs.Certificate.{decided}
 use Rattle.tsn_check.specs.declared.path.Turn.{Turn}
 use Rattle.tsn_model.specs.Places.{pending}
-use Rattle.tsn_check.specs.Turns.{IsTurnOf, decisions}
+use Rattle.tsn_check.specs.Turns.{IsTurn, decisions}
 use Rattle.tsn_model.proofs.Places.{pending-nil, pending-left, pending-right}
 use Rattle.tsn_check.proofs.path.next_place.Goals as goal
 
@@ -61,10 +61,10 @@ last_conflict P turns k last all long is = rw is (all k last (omega arith))
 pub turn_to-requires : goal.turn_to-requires
 turn_to-requires c =
     let some = c.in-Some.ensures.variant.0 refl in
-    (last_conflict (IsTurnOf c.args.conflicts.now) c.loop-last.path.items (vec_len c.loop-last.path - 1) c.in-Some.last.now c.loop-last.invariant.turns (omega arith) c.in-Some.ensures.value).conflict
+    (last_conflict (IsTurn c.args.timing.now) c.loop-last.path.items (vec_len c.loop-last.path - 1) c.in-Some.last.now c.loop-last.invariant.turns (omega arith) c.in-Some.ensures.value).conflict
 
 pub returns-in-Left-clause-turns : goal.returns-in-Left-clause-turns
-returns-in-Left-clause-turns c = All-set (IsTurnOf c.args.conflicts.now) c.loop-last.path.items (vec_len c.loop-last.path - 1) c.turn_to.result c.turn_to.ensures.turn c.loop-last.invariant.turns
+returns-in-Left-clause-turns c = All-set (IsTurn c.args.timing.now) c.loop-last.path.items (vec_len c.loop-last.path - 1) c.turn_to.result c.turn_to.ensures.turn c.loop-last.invariant.turns
 
 pub returns-in-Left-clause-next : goal.returns-in-Left-clause-next
 returns-in-Left-clause-next c = grind (arith, turned_right)
@@ -76,7 +76,7 @@ loop-last-preserved c =
     let at : c.len.result - 1 ≡ k = omega arith in
     let shorter : c.truncate.new.self.items ≡ take k c.loop-last.path.items = cc (take-set c.loop-last.path.items k c.in-Some.last.now) in
     record {
-      turns = rw shorter (All-take (IsTurnOf c.args.conflicts.now) k c.loop-last.path.items c.loop-last.invariant.turns);
+      turns = rw shorter (All-take (IsTurn c.args.timing.now) k c.loop-last.path.items c.loop-last.invariant.turns);
       same = cc (turned_back c.loop-last.path.items k c.in-Some.last.now (omega arith) c.in-Some.ensures.value c.in-Right.is);
     }
 

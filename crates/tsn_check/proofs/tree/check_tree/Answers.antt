@@ -7,7 +7,7 @@ use Rattle.tsn_model.specs.Certificate.{IsNodeShown}
 use Rattle.tsn_check.specs.Plans.{offsets_in}
 use Rattle.tsn_check.specs.Turns.{decisions, places_at}
 use Rattle.tsn_check.proofs.Walks.{start_places, node_there, walk_more, all_filled, fault_there, unfinished_there}
-use Rattle.tsn_check.proofs.Kept.{turns_in, branch_of}
+use Rattle.tsn_check.proofs.Branching.{branch_of}
 use Rattle.tsn_check.proofs.tree.check_tree.Goals as goal
 
 pub loop-number-init : goal.loop-number-init
@@ -18,14 +18,14 @@ returns-then-not-open-clause-err c = grind (arith, length-map)
 
 pub judge-requires-clause-turns : goal.judge-requires-clause-turns
 judge-requires-clause-turns c =
-    rw c.deref.ensures.value (turns_in c.args.claim.now.timing.now c.args.claim.now.conflicts.now c.requires.kept c.loop-number.path.items c.loop-number.invariant.turns)
+    rw c.deref.ensures.value c.loop-number.invariant.turns
 
 pub returns-in-Err-clause-err : goal.returns-in-Err-clause-err
 returns-in-Err-clause-err c = grind (arith, node_there, fault_there)
 
 pub go_on-requires-clause-conflict : goal.go_on-requires-clause-conflict
 go_on-requires-clause-conflict c =
-    branch_of c.args.claim.now.timing.now c.args.claim.now.conflicts.now c.requires.kept c.args.claim.now.target (offsets_in c.args.claim.now.plan.now) (decisions c.deref.result.now) (tree_node c.index-nodes-number.result) c.in_default.ensures
+    branch_of c.args.claim.now.timing.now c.args.claim.now.target (offsets_in c.args.claim.now.plan.now) (decisions c.deref.result.now) (tree_node c.index-nodes-number.result) c.in_default.ensures
 
 pub go_on-requires-clause-turns : goal.go_on-requires-clause-turns
 go_on-requires-clause-turns c = c.loop-number.invariant.turns

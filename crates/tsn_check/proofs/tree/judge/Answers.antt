@@ -5,22 +5,21 @@ use Rattle.tsn_cert.proofs.LeafLemmas.{has_bound}
 use Rattle.tsn_check.specs.Plans.{offsets_in}
 use Rattle.tsn_check.specs.Turns.{decisions}
 use Rattle.tsn_check.specs.Steps.{FindsBound}
-use Rattle.tsn_check.proofs.Kept.{kept_conflict, conflict_kept}
 use Rattle.tsn_check.proofs.Verdicts.{span-small}
 use Rattle.tsn_check.proofs.tree.judge.Goals as goal
 
-pub returns-then-has : goal.returns-then-has
-returns-then-has c = rw c.in-Branch.is (kept_conflict c.args.claim.now.timing.now c.args.claim.now.conflicts.now c.requires.posed.kept c.in-Branch.triple (c.has.ensures.0 c.if-has.true))
+pub returns-then-is_conflict : goal.returns-then-is_conflict
+returns-then-is_conflict c = grind (arith, false≢true)
 
 pub returns-in-Leaf : goal.returns-in-Leaf
 returns-in-Leaf c =
     rw c.in-Leaf.is (c.is_shown.ensures c.args.claim.now.timing.now c.args.claim.now.target (offsets_in c.args.claim.now.plan.now) (decisions c.args.path.now) (leaf_of c.in-Leaf.leaf) c.judge_leaf.ensures)
 
-pub returns-else-has : goal.returns-else-has
-returns-else-has c = grind (arith, conflict_kept, false≢true)
+pub returns-else-is_conflict : goal.returns-else-is_conflict
+returns-else-is_conflict c = grind (arith, false≢true)
 
 pub judge_bound-found-requires-clause-target : goal.judge_bound-found-requires-clause-target
-judge_bound-found-requires-clause-target c = rw c.span_of.ensures (span-small c.args.claim.now.timing.now c.args.claim.now.plan.now c.requires.posed.kept.formed c.requires.posed.right)
+judge_bound-found-requires-clause-target c = rw c.span_of.ensures (span-small c.args.claim.now.timing.now c.args.claim.now.plan.now c.requires.posed.formed c.requires.posed.right)
 
 pub returns-in-Tie : goal.returns-in-Tie
 returns-in-Tie c =
