@@ -41,8 +41,9 @@ fn next_start(network: &PlainNetwork, stream: usize, hops: &[Hop]) -> u64
     // The network is within its limits.
     let _limits = network.cycle();
     let from = network.link(network.route_link(stream, hops.len())).from;
-    for hop in 0..hops.len() {
-        let before = hops[hop];
+    // From the last hop back, which is the one that it continues where the route doesn't branch.
+    for step in 0..hops.len() {
+        let before = hops[hops.len() - 1 - step];
         if network.link(before.link).to == from {
             return before.start + network.hop_delay(stream, before.link);
         }
