@@ -230,6 +230,10 @@ fn routes_amiss<'a>(nodes: &[Value], routes: &'a [Value]) -> Option<Matter<'a>>
     if let Some(matter) = no_way_in(nodes, routes) {
         return Some(matter);
     }
+    // One route alone, without a name twice, always fits itself.
+    if routes.len() == 1 {
+        return None;
+    }
     if let Some(other) = other_talker(routes) {
         return Some(Matter::OtherTalker(talker_of(routes), other));
     }

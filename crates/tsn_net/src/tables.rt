@@ -232,6 +232,10 @@ fn route_limit(stream: &Value) -> Option<Matter<'_>>
     if let Some(text) = no_name_along(routes) {
         return Some(Matter::NoRouteName(text));
     }
+    // One route of up to 65 names has few steps.
+    if count == 1 {
+        return None;
+    }
     match different_steps(routes) {
         Some(_) => None,
         None => Some(Matter::ManyLinks),
