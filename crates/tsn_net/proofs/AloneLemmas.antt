@@ -78,7 +78,8 @@ begin_alike (x ∷ y ∷ xs) p q once p_has q_has same =
       ]
     ]
 
-meets_none : (xs : List (List ℕ)) (p q : List ℕ × List ℕ) → repeats xs ≡ false → Contains (neighbours xs) p → Contains (neighbours xs) q → meet p q ≡ false
+meets_none : (xs : List (List ℕ)) (p q : List ℕ × List ℕ) → repeats xs ≡ false → Contains (neighbours xs) p → Contains (neighbours xs) q
+    → meet p q ≡ false
 meets_none xs p q once p_has q_has = elim (bool_cases (bytes_eq q.1 p.1)) [
   | inl ends ↦
       let same = begin_alike xs p q once p_has q_has ((bytes_eq-Decides q.1 p.1).0 ends) in
@@ -134,7 +135,8 @@ none_entered nodes route once =
     let steps = different (neighbours route) in
     ap (λ ps. option_and_then (meeting nodes) (few (different ps))) (append-nil (neighbours route))
     ∙ few_none (nat_lt 64 (length steps)) (meeting nodes) steps
-    (none_meet nodes steps (λ p q p_has q_has. meets_none route p q once (different_from (neighbours route) p p_has) (different_from (neighbours route) q q_has)))
+    (none_meet nodes steps
+    (λ p q p_has q_has. meets_none route p q once (different_from (neighbours route) p p_has) (different_from (neighbours route) q q_has)))
 
 none_begins : (route : List (List ℕ)) → other_talker (route ∷ []) ≡ None
 none_begins route =
@@ -151,7 +153,8 @@ alone_fits nodes (route ∷ []) one way =
     (none_begins route, none_entered nodes route once.0, refl)
 alone_fits nodes (route ∷ other ∷ routes) one way = absurd (omega arith)
 
-pub alone_short : (routes : List (List (List ℕ))) → length routes ≡ 1 → list_any is_long routes ≡ false → is_none (few (different (steps_of routes))) ≡ false
+pub alone_short : (routes : List (List (List ℕ))) → length routes ≡ 1 → list_any is_long routes ≡ false
+    → is_none (few (different (steps_of routes))) ≡ false
 alone_short [] one short = absurd (omega arith)
 alone_short (route ∷ []) one short =
     let parts = or_parts (is_long route) false short in

@@ -34,7 +34,8 @@ pub overflow_add-result : goal.overflow_add-result
 overflow_add-result c =
     let inside = c.loop-step-test.true in
     let end = c.loop-step.invariant.end in
-    let is = c.requires.right.each (length c.args.hops.now - 1 - c.loop-step.step) (record { link = 0; start = 0; occupancy = 0; separation = 0 }) (omega arith) in
+    let hop = length c.args.hops.now - 1 - c.loop-step.step in
+    let is = c.requires.right.each hop (record { link = 0; start = 0; occupancy = 0; separation = 0 }) (omega arith) in
     let soon = is.early in
     let delay = c.hop_delay.ensures.bound in
     omega arith
@@ -48,7 +49,9 @@ loop-step-preserved c =
     let here = ends_at c.args.network.now c.cycle-limits.ensures.well_formed c.args.stream c.requires.stream _ hop c.link.result is c.link.ensures in
     record {
       none = λ j below behind same. elim (cases_eq j hop) [
-        | inl at ↦ c.if-link-from.false (here ∙ subst (λ n. to_at c.args.network.now (route_of c.args.network.now c.args.stream) n ≡ c.link-from.result.from) at same)
+        | inl at ↦
+            c.if-link-from.false
+            (here ∙ subst (λ n. to_at c.args.network.now (route_of c.args.network.now c.args.stream) n ≡ c.link-from.result.from) at same)
         | inr other ↦ c.loop-step.invariant.none j below (omega arith) same
       ];
       begins = c.loop-step.invariant.begins;
