@@ -1,10 +1,10 @@
 -- Where the two frames of a triple meet, by the uses that are kept: an overlap of any network that they are kept of.
-use Rattle.std.proofs.Common.{◌≡◌, ℕ, ◌<◌, ℤ, pos, List, length, get_or, All, arith}
+use Rattle.std.proofs.Common.{◌≡◌, ℕ, ◌<◌, ℤ, pos, List, length, get_or, All, sym, subst, arith}
 use Rattle.std.specs.Prelude.{◌-ℤ◌, ◌<ℤ◌}
 use Rattle.std.proofs.lemmas.Int.{ints}
 use Rattle.std.proofs.lemmas.List.Elements.{Contains-get_or}
 use Rattle.tsn_model.specs.declared.Triple.{Triple}
-use Rattle.tsn_model.specs.Network.{Network}
+use Rattle.tsn_model.specs.Network.{Network, stream_count}
 use Rattle.tsn_model.specs.Arcs.{arc_between, arc_on}
 use Rattle.tsn_model.specs.Timing.{separation, start_on}
 use Rattle.tsn_model.specs.Schedule.{IsConflict, Overlaps, offset_of}
@@ -13,7 +13,7 @@ use Rattle.tsn_conflict.specs.declared.uses.Use.{Use}
 use Rattle.tsn_conflict.specs.declared.pairs.Pair.{Pair}
 use Rattle.tsn_conflict.specs.Kept.{Kept, use_in, AreConflictsOf}
 use Rattle.tsn_conflict.specs.Raised.{triple_at}
-use Rattle.tsn_conflict.specs.Pairs.{IsInUses, Meets, pair_in}
+use Rattle.tsn_conflict.specs.Pairs.{IsInUses, IsPairBelow, Meets, pair_in}
 use Rattle.tsn_conflict.proofs.Reading.{Reads, Reads-used}
 use Rattle.tsn_conflict.proofs.Listed.{conflict_kept, lag_bounds}
 
@@ -47,6 +47,11 @@ module _ (network : Network) (kept : Kept) (is : AreConflictsOf network kept) wh
 
   pub all_in_uses : All (IsInUses kept.uses) kept.triples
   all_in_uses = λ k d below. in_uses _ (conflict_kept network kept _ is (Contains-get_or kept.triples k d below))
+
+  pub all_pairs_below : (streams : ℕ) → streams ≡ stream_count network → All (IsPairBelow streams) kept.triples
+  all_pairs_below streams count = λ k d below.
+      let conflict = conflict_kept network kept _ is (Contains-get_or kept.triples k d below) in
+      record { ordered = conflict.ordered; counted = subst (λ n. (get_or kept.triples k d).right < n) (sym count) conflict.counted }
 
   pub meets_from : (offsets : List ℕ) (triple : Triple) → IsConflict network triple → Overlaps network offsets triple → Meets kept.uses offsets triple
   meets_from offsets triple conflict overlaps =

@@ -1,5 +1,5 @@
 -- Words of the private contracts: the table of what each triple's overlap needs, and where each stream's triples are.
-use Rattle.std.specs.Prelude.{◌≡◌, ℕ, ◌+◌, ◌≤◌, ◌<◌, ℤ, pos, ◌+ℤ◌, ◌-ℤ◌, ◌<ℤ◌, Bool, true, ◌||◌, ◌==◌, List, [], map, filter, length, slice_index_or}
+use Rattle.std.specs.Prelude.{◌≡◌, ℕ, ◌+◌, ◌≤◌, ◌<◌, ℤ, pos, ◌+ℤ◌, ◌-ℤ◌, ◌<ℤ◌, Bool, true, ◌||◌, ◌==◌, List, [], ◌∷◌, ◌++◌, map, filter, length, slice_index_or, slice_set}
 use Rattle.std.specs.List.{range_with_len}
 use Rattle.tsn_model.specs.declared.bounds.TheConstants.{MAX_OCCUPANCY, MAX_START}
 use Rattle.tsn_model.specs.declared.Triple.{Triple}
@@ -56,6 +56,15 @@ numbers_with triples stream = filter (λ number. has_stream stream (triple_at tr
 -- the numbers that each list holds
 abbrev pub numbers_in : List Numbers → List (List ℕ)
 numbers_in lists = map (λ (list : Numbers). list.numbers.items) lists
+
+-- the lists with a number put last in that of a stream
+abbrev pub with_number : List (List ℕ) → ℕ → ℕ → List (List ℕ)
+with_number lists stream number = slice_set lists stream (slice_index_or lists stream [] ++ number ∷ [])
+
+-- the left stream of a triple is less than the right one, and that is less than a number
+pub record IsPairBelow (streams : ℕ) (triple : Triple) : Type 0 where
+  pub ordered : triple.left < triple.right
+  pub counted : triple.right < streams
 
 -- the triples of the numbers from one up to another don't meet
 abbrev pub AreApartBetween : Kept → List ℕ → ℕ → ℕ → Type 0

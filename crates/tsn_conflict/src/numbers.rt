@@ -1,7 +1,7 @@
 //! Where each stream's triples are in the list.
-ghost use Rattle.std.specs.Prelude.{◌≡◌, IfOk, map};
+ghost use Rattle.std.specs.Prelude.{◌≡◌, ◌<◌, List, [], length, map, slice_index_or, All, IfOk, OnOk};
 ghost use Rattle.std.specs.List.{range_with_len};
-ghost use Rattle.tsn_conflict.specs.Pairs.{has_stream, numbers_with, numbers_in};
+ghost use Rattle.tsn_conflict.specs.Pairs.{IsPairBelow, numbers_with, numbers_in, with_number};
 
 use std::alloc::{AllocError, Global};
 use tsn_model::Triple;
@@ -12,36 +12,41 @@ pub struct Numbers {
     pub numbers: Vec<usize>,
 }
 
-// Whether a stream is on either side of a triple.
-fn has_stream(triple: Triple, stream: usize) -> bool
-    ensures { result ≡ has_stream stream triple }
-{
-    triple.left == stream || triple.right == stream
-}
-
-fn numbers_with(alloc: Global, triples: &[Triple], stream: usize) -> Result<Numbers, AllocError>
-    ensures { IfOk result (λ list. list.numbers.items ≡ numbers_with triples.now stream) }
-{
-    let mut numbers = Vec::new(alloc);
-    for (number, &triple) in triples.iter().enumerate() {
-        if has_stream(triple, stream) {
-            numbers.push(number)?;
-        }
-    }
-    Ok(Numbers { numbers })
-}
-
 /// The numbers of each stream's triples.
 pub fn numbers_of(
     alloc: Global,
     triples: &[Triple],
     streams: usize,
 ) -> Result<Vec<Numbers>, AllocError>
+    requires { All (IsPairBelow streams) triples.now }
     ensures { IfOk result (λ lists. numbers_in lists.items ≡ map (numbers_with triples.now) (range_with_len 0 streams)) }
 {
-    let mut lists = Vec::with_capacity(alloc, streams)?;
-    for stream in 0..streams {
-        lists.push(numbers_with(alloc, triples, stream)?)?;
+    let mut lists = no_numbers(alloc, streams)?;
+    for (number, &triple) in triples.iter().enumerate() {
+        push_number(&mut lists, triple.left, number)?;
+        push_number(&mut lists, triple.right, number)?;
     }
     Ok(lists)
+}
+
+// An empty list for each stream.
+fn no_numbers(alloc: Global, streams: usize) -> Result<Vec<Numbers>, AllocError>
+    ensures { IfOk result (λ lists. numbers_in lists.items ≡ map (numbers_with []) (range_with_len 0 streams)) }
+{
+    let mut lists = Vec::with_capacity(alloc, streams)?;
+    for _stream in 0..streams {
+        lists.push(Numbers {
+            numbers: Vec::new(alloc),
+        })?;
+    }
+    Ok(lists)
+}
+
+// Puts a number last in a stream's list.
+fn push_number(lists: &mut Vec<Numbers>, stream: usize, number: usize) -> Result<(), AllocError>
+    requires { stream < length lists.old.items }
+    ensures { OnOk result (numbers_in lists.new.items ≡ with_number (numbers_in lists.old.items) stream number) }
+{
+    lists[stream].numbers.push(number)?;
+    Ok(())
 }

@@ -1,7 +1,6 @@
-use Rattle.std.proofs.Common.{◌≡◌, map}
-use Rattle.std.specs.List.{range_with_len}
-use Rattle.tsn_conflict.specs.Pairs.{numbers_in, numbers_with}
+use Rattle.tsn_conflict.specs.Pairs.{numbers_in}
+use Rattle.tsn_conflict.proofs.ByStream.{AreFirst}
 use Rattle.tsn_conflict.proofs.numbers.numbers_of.Given as goal
 
-abbrev pub invariant-loop-stream : goal.invariant-loop-stream
-invariant-loop-stream l = numbers_in l.lists.items ≡ map (numbers_with l.triples) (range_with_len 0 l.stream)
+abbrev pub invariant-loop-number : goal.invariant-loop-number
+invariant-loop-number l = AreFirst l.triples l.streams l.number (numbers_in l.lists.items)
