@@ -1,3 +1,4 @@
+pub mod Turning
 pub mod Judging
 pub mod Lagging
 pub mod Neighbouring

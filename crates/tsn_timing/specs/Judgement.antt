@@ -1,8 +1,8 @@
 -- What is said of a list of offsets.
 --     Judges                                       the judgement of a list
 --     IsFirstPastPeriod, IsFirstEarly, IsFirstTooLate, IsFirstOverlapWith, ..    its parts, by stream and by pair of streams
---     IsAfter, IsBetween, IsLeastBetween           by how much frames come after others
-use Rattle.std.specs.Prelude.{◌≡◌, ℕ, ◌+◌, ◌<◌, ◌⊎◌, ℤ, pos, ◌-ℤ◌, ◌≤ℤ◌, ◌<ℤ◌, List}
+--     ComesAfter, IsAfter, IsBetween, IsLeastBetween    by how much frames come after others
+use Rattle.std.specs.Prelude.{◌≡◌, ℕ, ◌+◌, ◌<◌, ◌⊎◌, ℤ, pos, ◌-ℤ◌, ◌≤ℤ◌, ◌<ℤ◌, neg_ℤ, List}
 use Rattle.tsn_model.specs.declared.Triple.{Triple}
 use Rattle.tsn_model.specs.Network.{Network, stream_count, period_of, release_of, latest_of}
 use Rattle.tsn_model.specs.Timing.{Sends, arrival, span}
@@ -36,6 +36,14 @@ pub record IsFirstTooLate (network : Network) (offsets : List ℕ) (i : ℕ) : T
 
 -- ---- overlaps
 
+-- some frame of stream j comes that much after one of stream i, were both offsets 0
+pub record ComesAfter (network : Network) (i j : ℕ) (lag : ℤ) : Type 0 where
+  pub first : ℕ
+  pub second : ℕ
+  pub first_sent : Sends network i first
+  pub second_sent : Sends network j second
+  pub is : lag ≡ pos second -ℤ pos first
+
 -- some frame of stream j comes that much after a shift of another stream's, and that is above the one number and below the other
 pub record IsAfter (network : Network) (j first : ℕ) (low high lag : ℤ) : Type 0 where
   pub second : ℕ
@@ -43,6 +51,11 @@ pub record IsAfter (network : Network) (j first : ℕ) (low high lag : ℤ) : Ty
   pub is : lag ≡ pos second -ℤ pos first
   pub above : low <ℤ lag
   pub below : lag <ℤ high
+
+-- a number that sums of instants don't bring out of range
+pub record IsNear (number : ℤ) : Type 0 where
+  pub low : neg_ℤ (pos 4000000000) ≤ℤ number
+  pub high : number ≤ℤ pos 4000000000
 
 -- the same after some frame of stream i
 pub record IsBetween (network : Network) (i j : ℕ) (low high lag : ℤ) : Type 0 where

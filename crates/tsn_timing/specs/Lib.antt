@@ -1,4 +1,5 @@
 pub mod Arcs
+pub mod Between
 pub mod Judgement
 pub mod Neighbours
 pub mod Tables

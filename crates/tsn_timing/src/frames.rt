@@ -1,5 +1,6 @@
 //! Whether numbers that a file names are shifts, lags and conflicts.
-ghost use Rattle.std.specs.Prelude.{MatchBool};
+ghost use Rattle.std.specs.Prelude.{◌<◌, ◌≤ℤ◌, pos, MatchBool};
+ghost use Rattle.std.proofs.Common.{neg_ℤ};
 ghost use Rattle.tsn_model.specs.Schedule.{IsConflict};
 
 use crate::timing::Timing;
@@ -8,6 +9,8 @@ use tsn_model::Triple;
 impl Timing {
     ghost use Rattle.tsn_model.specs.Timing.{Sends};
     ghost use Rattle.tsn_model.specs.Schedule.{IsLag};
+    ghost use Rattle.tsn_model.specs.Network.{stream_count};
+    ghost use Rattle.tsn_timing.specs.Judgement.{ComesAfter};
 
     /// Whether a stream, of any number, starts a frame so long after its offset.
     pub fn is_shift(&self, stream: usize, shift: u64) -> bool
@@ -40,9 +43,24 @@ impl Timing {
         if lag >= self.period(left) as i64 || lag <= -(self.period(right) as i64) {
             return false;
         }
-        for &first in self.shifts(left) {
+        // The stream with fewer frames is the one to go through.
+        if self.shifts(left).len() <= self.shifts(right).len() {
+            self.comes_after(left, right, lag)
+        } else {
+            self.comes_after(right, left, -lag)
+        }
+    }
+
+    // Whether some frame of another stream comes so long after one of a stream, were both offsets 0.
+    fn comes_after(&self, stream: usize, other: usize, lag: i64) -> bool
+        requires stream { stream < stream_count self.now }
+        requires low { neg_ℤ (pos 1_000_000_000) ≤ℤ lag }
+        requires high { lag ≤ℤ pos 1_000_000_000 }
+        ensures { MatchBool result (ComesAfter self.now stream other lag) (ComesAfter self.now stream other lag → ⊥) }
+    {
+        for &first in self.shifts(stream) {
             let second = first as i64 + lag;
-            if second >= 0 && self.is_shift(right, second as u64) {
+            if second >= 0 && self.is_shift(other, second as u64) {
                 return true;
             }
         }

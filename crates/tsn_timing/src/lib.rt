@@ -2,6 +2,7 @@
 #![tactic(auto)]
 
 pub mod arc;
+mod between;
 pub mod frames;
 mod neighbours;
 mod overlaps;

@@ -7,7 +7,7 @@ use tsn_model::Triple;
 impl Timing {
     ghost use Rattle.tsn_model.specs.Network.{stream_count, hop_count, route_link};
     ghost use Rattle.tsn_model.specs.Schedule.{IsFirstOverlap, AreApart};
-    ghost use Rattle.tsn_timing.specs.Judgement.{IsAfter, IsBetween, IsLeastBetween, AreApartOn, IsLeastOverlap, ArePairApart, IsFirstOverlapWith, HasNoOverlap, IsFirstOverlapOf};
+    ghost use Rattle.tsn_timing.specs.Judgement.{IsNear, IsAfter, IsBetween, IsLeastBetween, AreApartOn, IsLeastOverlap, ArePairApart, IsFirstOverlapWith, HasNoOverlap, IsFirstOverlapOf};
 
     /// The first triple whose frames overlap on its link.
     pub(crate) fn first_overlap(&self, offsets: &[u64]) -> Option<Triple>
@@ -100,6 +100,8 @@ impl Timing {
     fn least_lag(&self, left: usize, right: usize, above: i64, below: i64) -> Option<i64>
         requires left { left < stream_count self.now }
         requires right { right < stream_count self.now }
+        requires above { IsNear above }
+        requires below { IsNear below }
         ensures { MatchOption result ((lag : ℤ) → IsBetween self.now left right above below lag → ⊥)
             (IsLeastBetween self.now left right above below) }
     {
@@ -115,13 +117,16 @@ impl Timing {
     fn least_after(&self, stream: usize, first: u64, above: i64, below: i64) -> i64
         requires stream { stream < stream_count self.now }
         requires small { first ≤ 2_000_000_000 }
+        requires above { IsNear above }
+        requires below { IsNear below }
         ensures within { result ≤ℤ below }
         ensures reached { (result ≡ below) ⊎ IsAfter self.now stream first above below result }
         ensures least { (lag : ℤ) → IsAfter self.now stream first above below lag → result ≤ℤ lag }
     {
         let mut least = below;
-        for &second in self.shifts(stream) {
-            let lag = second as i64 - first as i64;
+        let from = first as i64;
+        for &second in self.shifts_between(stream, from + above, from + below) {
+            let lag = second as i64 - from;
             if above < lag && lag < least {
                 least = lag;
             }

@@ -1,13 +1,8 @@
-use Rattle.std.proofs.Common.{◌≡◌, ◌<◌, ◌≤◌, get_or, length, sym, ◌∙◌, subst, arith, inl, inr}
-use Rattle.std.proofs.lemmas.Bool.{cases_lt}
+use Rattle.std.proofs.Common.{arith}
 use Rattle.std.proofs.lemmas.Int.{ints}
-use Rattle.std.proofs.lemmas.Grind.{get_or_default_zero}
-use Rattle.std.proofs.lemmas.List.Elements.{Contains-get_or}
-use Rattle.tsn_model.specs.Timing.{shifts, Sends}
 use Rattle.tsn_timing.proofs.Sending.{Sends-counted}
-use Rattle.tsn_timing.proofs.Lagging.{lag_from}
+use Rattle.tsn_timing.proofs.Lagging.{lag_judged_back}
 use Rattle.tsn_timing.proofs.timing.Timing.is_lag.Goals as goal
-use Rattle.tsn_timing.proofs.timing.Timing.is_lag.Goals.{else-second-ge0-via-then-second-ge0+else-is_shift, else-second-ge0-via-else-second-ge0}
 
 pub returns-then-left-streams : goal.returns-then-left-streams
 returns-then-left-streams c =
@@ -16,62 +11,14 @@ returns-then-left-streams c =
     let right = Sends-counted c.args.self.now c.args.right lag.second lag.second_sent in
     grind arith
 
-pub returns-then-is_shift : goal.returns-then-is_shift
-returns-then-is_shift c =
-    let network = c.args.self.now in
-    let n = c.loop-first.first-index in
-    let items = c.shifts-first-items.ensures.value in
-    let inside : n < length (shifts network c.args.left) = subst (λ xs. n < length xs) items c.loop-first-test.true in
-    let same : get_or c.shifts-first-items.result.now n 0 ≡ get_or (shifts network c.args.left) n 0 = (λ k. get_or (items k) n 0) in
-    let small = c.shifts-first-items.ensures.bound n 0 c.loop-first-test.true in
+pub returns-else-shifts : goal.returns-else-shifts
+returns-else-shifts c =
+    let after = c.if-lag-period.false in
+    let before = c.if-lag-period-2.false in
     let left = c.period.ensures.value in
     let left_within = c.period.ensures.bound in
     let right = c.period-else-lag-period.ensures.value in
     let right_within = c.period-else-lag-period.ensures.bound in
-    let after = c.if-lag-period.false in
-    let before = c.if-lag-period-2.false in
-    let some = c.if-second-ge0.true in
-    lag_from network c.args.left c.args.right c.args.lag (get_or (shifts network c.args.left) n 0) _
-    (Contains-get_or (shifts network c.args.left) n 0 inside) c.if-is_shift.ensures
-    (omega (arith, ints, after, before, some, small, same, left, left_within, right, right_within)) (omega (arith, ints, after, left, left_within))
-    (omega (arith, ints, before, right, right_within))
-
-pub loop-first-preserved : goal.loop-first-preserved
-loop-first-preserved c =
-    λ k second counted is sent.
-    let network = c.args.self.now in
-    let n = c.loop-first.first-index in
-    elim (cases_lt k n) [
-      | inl earlier ↦ c.loop-first.invariant k second earlier is sent
-      | inr at ↦
-          let items = c.shifts-first-items.ensures.value in
-          let place : n ≡ k = omega arith in
-          let same : get_or c.shifts-first-items.result.now n 0 ≡ get_or (shifts network c.args.left) k 0 = (λ x. get_or (items x) (place x) 0) in
-          let small = c.shifts-first-items.ensures.bound n 0 c.loop-first-test.true in
-          let left_within = c.period.ensures.bound in
-          let right_within = c.period-else-lag-period.ensures.bound in
-          let after = c.if-lag-period.false in
-          let before = c.if-lag-period-2.false in
-          elim c.else-second-ge0.branch [
-            | else-second-ge0-via-then-second-ge0+else-is_shift w ↦
-                let some = w.if-second-ge0.true in
-                w.if-is_shift.ensures
-                (subst (Sends network c.args.right) (omega (arith, ints, is, after, before, some, small, same, left_within, right_within)) sent)
-            | else-second-ge0-via-else-second-ge0 w ↦
-                let none = w.if-second-ge0.false in
-                absurd (omega (arith, ints, is, after, before, none, small, same, left_within, right_within))
-          ]
-    ]
-
-pub returns : goal.returns
-returns c =
-    λ lag.
-    let network = c.args.self.now in
-    let items = c.shifts-first-items.ensures.value in
-    let ended = c.loop-first-test.false in
-    let all : length (shifts network c.args.left) ≤ c.loop-first.first-index = subst (λ xs. length xs ≤ c.loop-first.first-index) items ended in
-    let place = lag.first_sent.1 in
-    let first : get_or (shifts network c.args.left) lag.first_sent.0 0 ≡ lag.first = sym
-    (get_or_default_zero (shifts network c.args.left) lag.first_sent.0 lag.first place) ∙ lag.first_sent.2 in
-    let is = lag.is in
-    c.loop-first.invariant lag.first_sent.0 lag.second (omega arith) (omega (arith, ints, is, first)) lag.second_sent
+    lag_judged_back c.args.self.now c.args.left c.args.right c.args.lag _ (omega (arith, ints, after, left, left_within))
+    (omega (arith, ints, before, right, right_within)) c.comes_after-else-shifts.result
+    (omega (arith, ints, after, before, left_within, right_within)) c.comes_after-else-shifts.ensures

@@ -47,3 +47,15 @@ returns c =
       high_is = omega (arith, ints, clamps);
     })
     c.least_lag.result c.least_lag.ensures
+
+pub least_lag-requires-clause-above : goal.least_lag-requires-clause-above
+least_lag-requires-clause-above c =
+    let left_small = c.requires.small c.args.left 0 (omega arith) in
+    let right_small = c.requires.small c.args.right 0 (let counted = c.requires.right in omega arith) in
+    record { low = omega (arith, ints, clamps); high = omega (arith, ints, clamps) }
+
+pub least_lag-requires-clause-below : goal.least_lag-requires-clause-below
+least_lag-requires-clause-below c =
+    let left_small = c.requires.small c.args.left 0 (omega arith) in
+    let right_small = c.requires.small c.args.right 0 (let counted = c.requires.right in omega arith) in
+    record { low = omega (arith, ints, clamps); high = omega (arith, ints, clamps) }
