@@ -29,7 +29,13 @@ module _ (network : Network) (j first : ℕ) (above below : ℤ) (part : List �
       let lesser : lag <ℤ below = omega (arith, ints, less, within) in
       record {
         within = omega (arith, ints, lesser);
-        reached = inr (record { second = get_or part n 0; sent = sent_of_part low high of (get_or part n 0) (Contains-get_or part n 0 inside); is = is; above = more; below = lesser });
+        reached = inr (record {
+          second = get_or part n 0;
+          sent = sent_of_part low high of (get_or part n 0) (Contains-get_or part n 0 inside);
+          is = is;
+          above = more;
+          below = lesser;
+        });
         least_of = λ m counted over. elim (cases_lt m n) [
           | inl earlier ↦ let old = before.least_of m earlier over in omega (arith, ints, old, less)
           | inr at ↦
@@ -40,7 +46,8 @@ module _ (network : Network) (j first : ℕ) (above below : ℤ) (part : List �
     where
       sent_of_part : (low high : ℤ) → IsPartBetween network j low high part → (shift : ℕ) → Contains part shift → Sends network j shift
       sent_of_part low high of shift has =
-          subst (λ xs. Contains xs shift) (sym of.whole) (Contains-append_right of.before (part ++ of.after) shift (Contains-append_left part of.after shift has))
+          let later = Contains-append_left part of.after shift has in
+          subst (λ xs. Contains xs shift) (sym of.whole) (Contains-append_right of.before (part ++ of.after) shift later)
 
   pub after_left : (n : ℕ) (least lag : ℤ) → lag ≡ pos (get_or part n 0) -ℤ pos first → ((above <ℤ lag → least ≤ℤ lag))
       → IsLeastAfter n least → IsLeastAfter (n + 1) least
@@ -49,25 +56,26 @@ module _ (network : Network) (j first : ℕ) (above below : ℤ) (part : List �
   -- what lies between is of a frame of the part
   pub after_all : (low high : ℤ) → IsPartBetween network j low high part → low ≡ pos first +ℤ above → high ≡ pos first +ℤ below
       → (n : ℕ) (least : ℤ) → length part ≤ n → IsLeastAfter n least → (lag : ℤ) → IsAfter network j first above below lag → least ≤ℤ lag
-  after_all low high of low_is high_is n least all done lag after = elim (Contains-append_cases of.before (part ++ of.after) after.second (subst (λ xs. Contains xs after.second) of.whole after.sent)) [
-    | inl early ↦
-        let no_more = All-contains (λ shift. pos shift ≤ℤ low) of.before after.second of.early early in
-        let is = after.is in
-        let more = after.above in
-        absurd (omega (arith, ints, no_more, is, more, low_is))
-    | inr later ↦ elim (Contains-append_cases part of.after after.second later) [
-      | inr late ↦
-          let no_less = All-contains (λ shift. high ≤ℤ pos shift) of.after after.second of.late late in
-          let is = after.is in
-          let less = after.below in
-          absurd (omega (arith, ints, no_less, is, less, high_is))
-      | inl here ↦
-          let second : get_or part here.0 0 ≡ after.second = read here.0 here.1 ∙ here.2 in
-          let is : lag ≡ pos (get_or part here.0 0) -ℤ pos first = after.is ∙ ap (λ s. pos s -ℤ pos first) (sym second) in
-          let more = after.above in
-          subst (λ l. least ≤ℤ l) (sym is) (done.least_of here.0 (let inside = here.1 in omega arith) (subst (λ l. above <ℤ l) is more))
-    ]
-  ]
+  after_all low high of low_is high_is n least all done lag after =
+      elim (Contains-append_cases of.before (part ++ of.after) after.second (subst (λ xs. Contains xs after.second) of.whole after.sent)) [
+        | inl early ↦
+            let no_more = All-contains (λ shift. pos shift ≤ℤ low) of.before after.second of.early early in
+            let is = after.is in
+            let more = after.above in
+            absurd (omega (arith, ints, no_more, is, more, low_is))
+        | inr later ↦ elim (Contains-append_cases part of.after after.second later) [
+          | inr late ↦
+              let no_less = All-contains (λ shift. high ≤ℤ pos shift) of.after after.second of.late late in
+              let is = after.is in
+              let less = after.below in
+              absurd (omega (arith, ints, no_less, is, less, high_is))
+          | inl here ↦
+              let second : get_or part here.0 0 ≡ after.second = read here.0 here.1 ∙ here.2 in
+              let is : lag ≡ pos (get_or part here.0 0) -ℤ pos first = after.is ∙ ap (λ s. pos s -ℤ pos first) (sym second) in
+              let more = after.above in
+              subst (λ l. least ≤ℤ l) (sym is) (done.least_of here.0 (let inside = here.1 in omega arith) (subst (λ l. above <ℤ l) is more))
+        ]
+      ]
     where
       read : (k : ℕ) → k < length part → get_or part k 0 ≡ get_or part k after.second
       read k inside = sym (get_or_default_zero part k after.second inside)

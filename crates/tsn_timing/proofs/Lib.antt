@@ -5,5 +5,6 @@ pub mod Neighbouring
 pub mod Overlapping
 pub mod Sending
 pub mod Tabling
+pub mod Using
 pub mod Hopping
 mod DecidedArcs

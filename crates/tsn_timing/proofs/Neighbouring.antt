@@ -1,83 +1,86 @@
 -- The frames' slots of links, as they are gathered and put in order, and what it says that they follow one another.
-use Rattle.std.proofs.Common.{◌≡◌, ℕ, ◌+◌, ◌≤◌, ◌<◌, List, ◌++◌, map, length, get_or, All, AllPairs, Contains, sym, ap, ◌∙◌, subst, arith, inl, inr}
+use Rattle.std.proofs.Common.{◌≡◌, ℕ, ◌+◌, ◌≤◌, ◌<◌, Some, List, [], ◌++◌, map, length, get_or, All, AllPairs, Contains, refl, sym, ap, ◌∙◌, subst, arith, inl, inr}
 use Rattle.std.specs.List.Sorted.{IsPermutation}
 use Rattle.std.proofs.lemmas.Bool.{cases_lt, cases_order}
 use Rattle.std.proofs.lemmas.List.{get_or_default}
-use Rattle.std.proofs.lemmas.List.Elements.{All-map, All-append, Contains-append_left, Contains-append_right}
+use Rattle.std.proofs.lemmas.List.Elements.{All-nil, All-map, All-append, Contains-append_left, Contains-append_right}
 use Rattle.std.proofs.lemmas.List.Sorted.{All-permutation, Contains-permutation}
-use Rattle.tsn_model.specs.Network.{Network, stream_count, hop_count, route_link}
-use Rattle.tsn_model.specs.Timing.{separation, shifts, start, Sends}
-use Rattle.tsn_model.specs.Schedule.{offset_of, AreApart}
+use Rattle.tsn_model.specs.Network.{Network, IsWellFormed, stream_count, hop_count, route_link}
+use Rattle.tsn_model.specs.Timing.{separation, shifts, start, Sends, hop_on}
+use Rattle.tsn_model.specs.Schedule.{offset_of, AreApart, IsConflict, Overlaps}
 use Rattle.tsn_model.proofs.Lists.{Contains-map}
-use Rattle.tsn_model.proofs.Routes.{use_of}
+use Rattle.tsn_model.proofs.Routes.{use_of, UsesLink-exists}
 use Rattle.tsn_timing.specs.declared.neighbours.Slot.{Slot}
-use Rattle.tsn_timing.specs.Neighbours.{slot_at, later, AreSlots, IsBefore}
+use Rattle.tsn_timing.specs.Neighbours.{slot_at, later, AreSlots, AreApartAt, IsBefore}
+use Rattle.tsn_timing.specs.declared.users.User.{User}
+use Rattle.tsn_timing.proofs.Using.{hop_on-route}
 
 abbrev pub IsInOrder : Slot → Type 0
 IsInOrder o = o.begin ≤ o.end
 
-abbrev made : ℕ → ℕ → ℕ → ℕ → Slot
-made stream link begin end = record { stream = stream; link = link; begin = begin; end = end }
+abbrev made : ℕ → ℕ → ℕ → Slot
+made stream begin end = record { stream = stream; begin = begin; end = end }
 
-pub first_is : (network : Network) (offset i k begin link length : ℕ) → begin ≡ start network i k → link ≡ route_link network i k
-    → length ≡ separation network i (route_link network i k) → made i link (offset + begin) (offset + begin + length) ≡ slot_at network offset i k 0
+pub first_is : (network : Network) (offset i k begin length : ℕ) → begin ≡ start network i k
+    → length ≡ separation network i (route_link network i k) → made i (offset + begin) (offset + begin + length) ≡ slot_at network offset i k 0
 unfolding slot_at
-first_is network offset i k begin link length begins link_is lasts = grind arith
+first_is network offset i k begin length begins lasts = grind arith
 
 -- that of a later frame is so much later
 later_is : (network : Network) (offset i k shift : ℕ) → later (slot_at network offset i k 0) shift ≡ slot_at network offset i k shift
 unfolding slot_at
 later_is network offset i k shift = grind arith
 
-module _ (network : Network) (offsets : List ℕ) where
-  -- those of all streams below i, and of the first k hops of i
-  pub record AreSoFar (i k : ℕ) (slots : List Slot) : Type 0 where
+module _ (network : Network) (offsets : List ℕ) (link : ℕ) where
+  -- those of the first n users of the link
+  pub record AreSoFar (users : List User) (n : ℕ) (slots : List Slot) : Type 0 where
     pub in_order : All IsInOrder slots
-    pub before : (j l shift : ℕ) → j < i → l < hop_count network j → Sends network j shift
-        → Contains slots (slot_at network (offset_of offsets j) j l shift)
-    pub here : (l shift : ℕ) → l < k → Sends network i shift → Contains slots (slot_at network (offset_of offsets i) i l shift)
+    pub each : (m shift : ℕ) (user : User) → m < n → user ≡ get_or users m user → Sends network user.stream shift
+        → Contains slots (slot_at network (offset_of offsets user.stream) user.stream user.hop shift)
 
-  pub one_hop_more : (i k : ℕ) (slots : List Slot) (first : Slot) → first ≡ slot_at network (offset_of offsets i) i k 0
-      → first.begin ≤ first.end → AreSoFar i k slots → AreSoFar i (k + 1) (slots ++ map (later first) (shifts network i))
-  one_hop_more i k slots first is order so_far =
-      let new = map (later first) (shifts network i) in
+  pub none_so_far : (users : List User) (slots : List Slot) → slots ≡ [] → AreSoFar users 0 slots
+  none_so_far users slots none = record {
+    in_order = subst (All IsInOrder) (sym none) (All-nil IsInOrder);
+    each = λ m shift user below. absurd (omega arith);
+  }
+
+  pub one_user_more : (users : List User) (n : ℕ) (user : User) (slots : List Slot) (first : Slot) → user ≡ get_or users n user → n < length users
+      → first ≡ slot_at network (offset_of offsets user.stream) user.stream user.hop 0 → first.begin ≤ first.end → AreSoFar users n slots
+      → AreSoFar users (n + 1) (slots ++ map (later first) (shifts network user.stream))
+  one_user_more users n user slots first here inside is order so_far =
+      let new = map (later first) (shifts network user.stream) in
       record {
-        in_order = All-append IsInOrder slots new so_far.in_order (All-map IsInOrder (later first) (shifts network i) (λ n d inside. omega arith));
-        before = λ j l shift below hop sent. Contains-append_left slots new _ (so_far.before j l shift below hop sent);
-        here = λ l shift below sent. elim (cases_lt l k) [
-          | inl earlier ↦ Contains-append_left slots new _ (so_far.here l shift earlier sent)
+        in_order = All-append IsInOrder slots new so_far.in_order (All-map IsInOrder (later first) (shifts network user.stream) (λ k d below. omega arith));
+        each = λ m shift other below other_is sent. elim (cases_lt m n) [
+          | inl earlier ↦ Contains-append_left slots new _ (so_far.each m shift other earlier other_is sent)
           | inr at ↦
-              let same : k ≡ l = omega arith in
-              let place : ℕ → Slot = λ m. slot_at network (offset_of offsets i) i m shift in
-              let that : later first shift ≡ place k = ap (λ o. later o shift) is ∙ later_is network (offset_of offsets i) i k shift in
+              let last : m ≡ n = omega arith in
+              let same : user ≡ other = here ∙ get_or_default users n user other inside ∙ ap (λ k. get_or users k other) (sym last) ∙ sym other_is in
+              let that : later first shift ≡ slot_at network (offset_of offsets user.stream) user.stream user.hop shift = ap (λ o. later o shift) is
+              ∙ later_is network (offset_of offsets user.stream) user.stream user.hop shift in
+              let sent_here : Sends network user.stream shift = subst (λ (u : User). Sends network u.stream shift) (sym same) sent in
               Contains-append_right slots new _
-              (subst (λ m. Contains new (slot_at network (offset_of offsets i) i m shift)) same
-              (subst (Contains new) that (Contains-map (later first) (shifts network i) shift sent)))
+              (subst (λ (u : User). Contains new (slot_at network (offset_of offsets u.stream) u.stream u.hop shift)) same
+              (subst (Contains new) that (Contains-map (later first) (shifts network user.stream) shift sent_here)))
         ];
       }
 
-  pub one_stream_more : (i k : ℕ) (slots : List Slot) → k ≡ hop_count network i → AreSoFar i k slots → AreSoFar (i + 1) 0 slots
-  one_stream_more i k slots all so_far = record {
+  -- all users of the link, and so all its hops
+  pub all_so_far : IsWellFormed network → (users : List User) (n : ℕ) (slots : List Slot) → length users ≤ n
+      → ((i hop : ℕ) → hop_on network i link ≡ Some hop → Contains users (record { stream = i; hop = hop })) → AreSoFar users n slots
+      → AreSlots network offsets link slots
+  all_so_far formed users n slots all listed so_far = record {
     in_order = so_far.in_order;
-    before = λ j l shift below hop sent. elim (cases_lt j i) [
-      | inl earlier ↦ so_far.before j l shift earlier hop sent
-      | inr at ↦
-          let same : i ≡ j = omega arith in
-          let hops : hop_count network i ≡ hop_count network j = ap (hop_count network) same in
-          subst (λ m. Contains slots (slot_at network (offset_of offsets m) m l shift)) same
-          (so_far.here l shift (omega arith) (subst (λ m. Sends network m shift) (sym same) sent))
-    ];
-    here = λ l shift below. absurd (omega arith);
+    each = λ i k shift counted below on sent.
+        let place = listed i k (hop_on-route network formed i counted k link below on) in
+        so_far.each place.0 shift (record { stream = i; hop = k }) (let inside = place.1 in omega arith) (sym place.2) sent;
   }
 
-  pub all_so_far : (i : ℕ) (slots : List Slot) → stream_count network ≤ i → AreSoFar i 0 slots → AreSlots network offsets slots
-  all_so_far i slots all so_far = grind arith
-
-  pub sorted : (slots others : List Slot) → IsPermutation slots others → AreSlots network offsets slots
-      → AreSlots network offsets others
+  pub sorted : (slots others : List Slot) → IsPermutation slots others → AreSlots network offsets link slots
+      → AreSlots network offsets link others
   sorted slots others moved are = record {
     in_order = All-permutation IsInOrder slots others moved are.in_order;
-    each = λ i k shift below hop sent. Contains-permutation slots others _ moved (are.each i k shift below hop sent);
+    each = λ i k shift counted below on sent. Contains-permutation slots others _ moved (are.each i k shift counted below on sent);
   }
 
 -- ---- one after the other
@@ -111,11 +114,11 @@ one_more_follows slots last n is inside order next before = λ j k d less below.
 ]
 
 -- of two frames that overlap neither is before the other
-not_before : (network : Network) (first second i k s j l t link instant : ℕ) → route_link network i k ≡ link → route_link network j l ≡ link
+not_before : (network : Network) (first second i k s j l t link instant : ℕ) → route_link network i k ≡ link
     → instant < first + start network i k + s + separation network i link → second + start network j l + t ≤ instant
     → IsBefore (slot_at network first i k s) (slot_at network second j l t) → ⊥
 unfolding slot_at
-not_before network first second i k s j l t link instant i_link j_link not_ended begun before = grind arith
+not_before network first second i k s j l t link instant i_link not_ended begun before = grind arith
 
 module _ (network : Network) (offsets : List ℕ) where
   abbrev at_frame : ℕ → ℕ → ℕ → Slot
@@ -125,9 +128,9 @@ module _ (network : Network) (offsets : List ℕ) where
   unfolding slot_at
   different i k s j l t less same = let stream = ap (λ (o : Slot). o.stream) same in omega arith
 
-  pub apart_from_following : (slots : List Slot) → AreSlots network offsets slots → AllPairs IsBefore slots
-      → AreApart network offsets
-  apart_from_following slots are following triple conflict overlaps =
+  pub apart_from_following : (link : ℕ) (slots : List Slot) → AreSlots network offsets link slots → AllPairs IsBefore slots
+      → AreApartAt network offsets link
+  apart_from_following link slots are following triple at conflict overlaps =
       let i = triple.left in
       let j = triple.right in
       let ordered = conflict.ordered in
@@ -136,14 +139,14 @@ module _ (network : Network) (offsets : List ℕ) where
       let j_use = use_of network j triple.link conflict.right_uses in
       let i_frame = at_frame i i_use.hop overlaps.left in
       let j_frame = at_frame j j_use.hop overlaps.right in
-      let i_place = are.each i i_use.hop overlaps.left (omega arith) i_use.counted overlaps.left_sent in
-      let j_place = are.each j j_use.hop overlaps.right counted j_use.counted overlaps.right_sent in
+      let i_place = are.each i i_use.hop overlaps.left (omega arith) i_use.counted (i_use.same_link ∙ at) overlaps.left_sent in
+      let j_place = are.each j j_use.hop overlaps.right counted j_use.counted (j_use.same_link ∙ at) overlaps.right_sent in
       meet i_place.0 j_place.0 i_frame j_frame i_place.1 j_place.1 i_place.2 j_place.2
       (λ same. different i i_use.hop overlaps.left j j_use.hop overlaps.right ordered same)
       (not_before network (offset_of offsets i) (offset_of offsets j) i i_use.hop overlaps.left j j_use.hop overlaps.right triple.link overlaps.instant
-      i_use.same_link j_use.same_link (omega arith) (omega arith))
+      i_use.same_link (omega arith) (omega arith))
       (not_before network (offset_of offsets j) (offset_of offsets i) j j_use.hop overlaps.right i i_use.hop overlaps.left triple.link overlaps.instant
-      j_use.same_link i_use.same_link (omega arith) (omega arith))
+      j_use.same_link (omega arith) (omega arith))
     where
       reads : (p : ℕ) (x d : Slot) → p < length slots → get_or slots p x ≡ x → get_or slots p d ≡ x
       reads p x d inside is = get_or_default slots p d x inside ∙ is
@@ -161,3 +164,10 @@ module _ (network : Network) (offsets : List ℕ) where
               not_second (subst (IsBefore y) (reads p x y p_inside p_is) (subst (λ o. IsBefore o (get_or slots p y)) q_is before))
         ]
       ]
+
+  -- no frames overlap on any link, where none do on the first links
+  pub apart_on_all : (links : ℕ) → IsWellFormed network → length network.links ≤ links → ((link : ℕ) → link < links → AreApartAt network offsets link)
+      → AreApart network offsets
+  apart_on_all links formed all apart triple conflict overlaps =
+      let exists = UsesLink-exists network triple.left triple.link formed conflict.left_uses in
+      apart triple.link (omega arith) triple refl conflict overlaps

@@ -3,6 +3,7 @@ pub mod Between
 pub mod Judgement
 pub mod Neighbours
 pub mod Tables
+pub mod Users
 pub mod Solution
 pub mod Problem
 pub mod ProblemView

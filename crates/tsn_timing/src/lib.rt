@@ -10,6 +10,7 @@ pub mod problem;
 pub mod solved;
 mod tables;
 pub mod timing;
+pub mod users;
 pub mod valid;
 pub mod window;
 
@@ -19,5 +20,6 @@ pub use problem::Problem;
 pub use solved::Solved;
 pub use timing::{Timing, Validity};
 pub use tsn_model::{NoMemory, Triple, Violation};
+pub use users::User;
 pub use valid::Valid;
 pub use window::Window;

@@ -1,5 +1,5 @@
 //! Whether the frames on each link follow one another, by those that stand side by side there.
-ghost use Rattle.std.specs.Prelude.{◌≡◌, ◌+◌, ◌≤◌, ◌<◌, ◌↔◌, ◌^◌, ◌++◌, map, length, All, AllPairs, IfOk, OnOk, IsTrue};
+ghost use Rattle.std.specs.Prelude.{◌≡◌, ◌+◌, ◌≤◌, ◌<◌, ◌↔◌, ◌^◌, ◌++◌, [], map, length, All, AllPairs, IfOk, OnOk, IsTrue};
 
 use crate::timing::Timing;
 use std::alloc::AllocError;
@@ -8,26 +8,14 @@ use std::alloc::AllocError;
 #[derive(Clone, Copy)]
 pub struct Slot {
     pub stream: usize,
-    pub link: usize,
     pub begin: u64,
     pub end: u64,
-}
-
-impl Slot {
-    ghost use Rattle.tsn_timing.specs.Neighbours.{IsBefore};
-
-    // Whether it is on a lesser link than the other one, or on the same one and ends before that begins.
-    fn is_before(&self, other: &Slot) -> bool
-        ensures { IsTrue result ↔ IsBefore self.now other.now }
-    {
-        self.link < other.link || self.link == other.link && self.end <= other.begin
-    }
 }
 
 impl Timing {
     ghost use Rattle.tsn_model.specs.Network.{stream_count, hop_count};
     ghost use Rattle.tsn_model.specs.Schedule.{AreApart};
-    ghost use Rattle.tsn_timing.specs.Neighbours.{AreSlots, slot_at};
+    ghost use Rattle.tsn_timing.specs.Neighbours.{AreApartAt, AreSlots, slot_at};
 
     /// Whether each slot of a link ends before the next one begins. Then no frames overlap; but the answer may be no for another
     /// reason, as that there is no memory.
@@ -36,27 +24,52 @@ impl Timing {
         requires small { All (λ offset. offset ≤ self.now.cycle) offsets.now }
         ensures { IsTrue result → AreApart self.now offsets.now }
     {
-        let Ok(mut slots) = self.slots(offsets) else {
-            return false;
-        };
-        slots.sort_unstable_by_key(|slot| (slot.link, slot.begin));
-        each_before_next(&slots)
-    }
-
-    // The slots of all frames on all links.
-    fn slots(&self, offsets: &[u64]) -> Result<Vec<Slot>, AllocError>
-        requires count { length offsets.now ≡ stream_count self.now }
-        requires small { All (λ offset. offset ≤ self.now.cycle) offsets.now }
-        ensures { IfOk result (λ slots. AreSlots self.now offsets.now slots.items) }
-    {
+        // The network is within its limits.
+        let _limits = self.cycle();
         let mut slots = Vec::new(self.allocator());
-        for stream in 0..self.streams() {
-            for hop in 0..self.hops(stream) {
-                let first = self.first_slot(stream, hop, offsets[stream]);
-                push_later(&mut slots, first, self.shifts(stream))?;
+        for link in 0..self.links() {
+            if !self.frames_follow_on(link, offsets, &mut slots) {
+                return false;
             }
         }
-        Ok(slots)
+        true
+    }
+
+    // The same of one link, in the memory of a list of slots.
+    fn frames_follow_on(&self, link: usize, offsets: &[u64], slots: &mut Vec<Slot>) -> bool
+        requires link { link < length self.now.links }
+        requires count { length offsets.now ≡ stream_count self.now }
+        requires small { All (λ offset. offset ≤ self.now.cycle) offsets.now }
+        ensures { IsTrue result → AreApartAt self.now offsets.now link }
+    {
+        slots.clear();
+        let Ok(()) = self.push_slots(link, offsets, slots) else {
+            return false;
+        };
+        slots.sort_unstable_by_key(|slot| slot.begin);
+        each_before_next(slots)
+    }
+
+    // Lists the slots of all frames on a link.
+    fn push_slots(
+        &self,
+        link: usize,
+        offsets: &[u64],
+        slots: &mut Vec<Slot>,
+    ) -> Result<(), AllocError>
+        requires link { link < length self.now.links }
+        requires count { length offsets.now ≡ stream_count self.now }
+        requires small { All (λ offset. offset ≤ self.now.cycle) offsets.now }
+        requires empty { slots.old.items ≡ [] }
+        ensures { IfOk result (λ _. AreSlots self.now offsets.now link slots.new.items) }
+    {
+        // The network is within its limits.
+        let _limits = self.cycle();
+        for &user in self.users(link) {
+            let first = self.first_slot(user.stream, user.hop, offsets[user.stream]);
+            push_later(slots, first, self.shifts(user.stream))?;
+        }
+        Ok(())
     }
 
     // The slot of a hop by a frame that the stream starts at its offset.
@@ -73,7 +86,6 @@ impl Timing {
         let begin = offset + self.start(stream, hop);
         Slot {
             stream,
-            link: self.route_link(stream, hop),
             begin,
             end: begin + self.separation(stream, hop),
         }
@@ -91,7 +103,6 @@ fn push_later(slots: &mut Vec<Slot>, first: Slot, shifts: &[u64]) -> Result<(), 
     for shift in shifts {
         slots.push(Slot {
             stream: first.stream,
-            link: first.link,
             begin: first.begin + *shift,
             end: first.end + *shift,
         })?;
@@ -105,7 +116,7 @@ fn each_before_next(slots: &[Slot]) -> bool
     ensures { IsTrue result → AllPairs IsBefore slots.now }
 {
     for index in 1..slots.len() {
-        if !slots[index - 1].is_before(&slots[index]) {
+        if slots[index - 1].end > slots[index].begin {
             return false;
         }
     }

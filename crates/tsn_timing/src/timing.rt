@@ -1,7 +1,8 @@
 //! The timing of a network, and the judgement of offsets.
-ghost use Rattle.std.specs.Prelude.{◌≡◌, ◌+◌, ◌≤◌, ◌<◌, ◌↔◌, ℕ, IsTrue, length, All, IfOk, IfErr, MatchOption};
+ghost use Rattle.std.specs.Prelude.{◌≡◌, ◌+◌, ◌≤◌, ◌<◌, ◌↔◌, ℕ, IsTrue, length, All, AllPairs, Contains, Some, IfOk, IfErr, MatchOption};
 
 use crate::tables::{StreamTable, tables_of};
+use crate::users::{User, Users, users_of};
 use crate::valid::Valid;
 use std::alloc::Global;
 use std::marker::Model;
@@ -25,6 +26,7 @@ pub enum Validity {
 pub struct Timing {
     network: PlainNetwork,
     tables: Vec<StreamTable>,
+    users: Vec<Users>,
 }
 
 impl Model for Timing {
@@ -35,14 +37,16 @@ impl Model for Timing {
     ghost view = { λ timing. timing.network };
 
     ghost use Rattle.tsn_timing.specs.Tables.{AreTables};
+    ghost use Rattle.tsn_timing.specs.Users.{AreUsers};
 
-    ghost invariant = { λ timing. AreTables timing.network timing.tables.items };
+    ghost invariant = { λ timing. AreTables timing.network timing.tables.items × AreUsers timing.network timing.users.items };
 }
 
 impl Timing {
     ghost use Rattle.tsn_model.specs.Network.{IsWellFormed, stream_count, turns_of, period_of, burst_of, hop_count, route_link, link_at, release_of, latest_of};
     ghost use Rattle.tsn_model.specs.Timing.{occupancy, separation, pace, spread, shifts, start, arrival, span, hop_on};
     ghost use Rattle.tsn_model.specs.Schedule.{IsValid, IsFirstViolation, FitsPeriod, IsReleased, IsInTime, flowspan};
+    ghost use Rattle.tsn_timing.specs.Users.{users_of};
     ghost use Rattle.tsn_timing.specs.Judgement.{Judges, IsFirstPastPeriod, IsFirstEarly, IsFirstTooLate};
 
     /// The timing of a network, which it keeps a copy of. The error says that there was no memory.
@@ -58,7 +62,12 @@ impl Timing {
         ensures { IfOk result (λ timing. timing ≡ network) }
     {
         let tables = tables_of(alloc, &network)?;
-        Ok(Timing { network, tables })
+        let users = users_of(alloc, &network)?;
+        Ok(Timing {
+            network,
+            tables,
+            users,
+        })
     }
 
     /// The same timing once more. The error says that there was no memory.
@@ -277,6 +286,17 @@ impl Timing {
         ensures { result ≡ hop_on self.now stream link }
     {
         self.network.hop_on(stream, link)
+    }
+
+    /// The streams that use a link, ascending, and the hop of each.
+    pub fn users(&self, link: usize) -> &[User]
+        requires { link < length self.now.links }
+        ensures value { result.now ≡ users_of self.now link }
+        ensures hops { All (λ user. hop_on self.now user.stream link ≡ Some user.hop) result.now }
+        ensures all { (stream hop : ℕ) → hop_on self.now stream link ≡ Some hop → Contains result.now (record { stream = stream; hop = hop }) }
+        ensures ascending { AllPairs (λ first second. first.stream < second.stream) result.now }
+    {
+        &self.users[link].list
     }
 
     /// Whether the offsets are a valid schedule, and if not, the first reason: their count, then the first stream that

@@ -6,4 +6,4 @@ pub loop-index-preserved : goal.loop-index-preserved
 loop-index-preserved c =
     let n = c.loop-index.index in
     one_more_follows c.args.slots.now (n - 1) n (omega arith) (omega arith) c.requires
-    (read_before c.args.slots.now (n - 1) n _ _ (omega arith) (omega arith) (c.is_before.ensures.0 c.if-not-is_before.false)) c.loop-index.invariant
+    (read_before c.args.slots.now (n - 1) n _ _ (omega arith) (omega arith) c.if-slots-index.false) c.loop-index.invariant

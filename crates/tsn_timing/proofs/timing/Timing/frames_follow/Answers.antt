@@ -1,18 +1,7 @@
-use Rattle.std.proofs.Common.{All, AllPairs, sym, subst}
-use Rattle.tsn_timing.specs.Neighbours.{IsBefore}
-use Rattle.tsn_timing.proofs.Neighbouring.{IsInOrder, sorted, apart_from_following}
+use Rattle.std.proofs.Common.{arith}
+use Rattle.tsn_timing.proofs.Neighbouring.{apart_on_all}
 use Rattle.tsn_timing.proofs.timing.Timing.frames_follow.Goals as goal
-
-pub each_before_next-requires : goal.each_before_next-requires
-each_before_next-requires c =
-    let are = sorted c.args.self.now c.args.offsets.now c.in-Ok.slots.items c.sort_unstable_by_key.new.self.items
-    c.sort_unstable_by_key.ensures.permutation c.in-Ok.ensures in
-    subst (All IsInOrder) (sym c.deref.ensures.value) are.in_order
 
 pub returns : goal.returns
 returns c =
-    λ yes.
-    let are = sorted c.args.self.now c.args.offsets.now c.in-Ok.slots.items c.sort_unstable_by_key.new.self.items
-    c.sort_unstable_by_key.ensures.permutation c.in-Ok.ensures in
-    apart_from_following c.args.self.now c.args.offsets.now c.sort_unstable_by_key.new.self.items are
-    (subst (AllPairs IsBefore) c.deref.ensures.value (c.each_before_next.ensures yes))
+    λ yes. apart_on_all c.args.self.now c.args.offsets.now c.loop-link.link c.cycle-limits.ensures.well_formed (omega arith) c.loop-link.invariant.apart
