@@ -36,7 +36,7 @@ pub struct Link {
 
 /// Two streams, `left` below `right`, a link that both use, and by how much some frame of `right` comes after one of `left`,
 /// were all offsets 0.
-#[derive(Clone, Copy, PartialEq, Eq)]
+#[derive(Clone, Copy, PartialEq, Eq, Hash)]
 pub struct Triple {
     pub left: usize,
     pub right: usize,
@@ -46,7 +46,7 @@ pub struct Triple {
 }
 
 /// A frame that a stream sends each cycle, by how long after the stream's offset, in nanoseconds.
-#[derive(Clone, Copy, PartialEq, Eq)]
+#[derive(Clone, Copy, PartialEq, Eq, Hash)]
 pub struct Frame {
     pub stream: usize,
     pub shift: u64,
@@ -64,14 +64,14 @@ pub struct Tally {
 }
 
 /// Which stream of a triple goes first on its link.
-#[derive(Clone, Copy, PartialEq, Eq)]
+#[derive(Clone, Copy, PartialEq, Eq, Hash)]
 pub enum Side {
     Left,
     Right,
 }
 
 /// A triple, and which of its streams goes first.
-#[derive(Clone, Copy, PartialEq, Eq)]
+#[derive(Clone, Copy, PartialEq, Eq, Hash)]
 pub struct Decision {
     pub triple: Triple,
     pub side: Side,
