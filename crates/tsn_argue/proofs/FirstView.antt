@@ -86,7 +86,7 @@ among list d false none = by_test (list_any (decision_eq d) list) refl
 
 -- the view before the first step
 pub first_view : (network : Network) (goal : model.Goal) (state : View) (crossed : Bool) → greatest_flowspan network goal ≤ℤ pos network.cycle
-    → state.timing.now ≡ network → state.orders.network ≡ network
+    → state.timing.now ≡ network
     → view_of state ≡ first_ground network goal → base_of state ≡ first_ground network goal → state.base_crossed ≡ state.crossed
     → MatchBool crossed (AreCrossed (first_ground network goal).low (first_ground network goal).high)
     (AreCrossed (first_ground network goal).low (first_ground network goal).high → ⊥)
@@ -94,9 +94,8 @@ pub first_view : (network : Network) (goal : model.Goal) (state : View) (crossed
     ((crossed ≡ false) × ((first_ground network goal).done_low ≤ℤ (first_ground network goal).done_high))
     → IsFirstView network goal state
 unfolding first_ground
-first_view network goal state crossed within timing orders view base flag lists told = record {
+first_view network goal state crossed within timing view base flag lists told = record {
   sound = record {
-    same_network = orders ∙ sym timing;
     view = subst (λ n. IsKept n (view_of state)) (sym timing) (subst (IsKept network) (sym view) kept);
     base = subst (λ n. IsKept n (base_of state)) (sym timing) (subst (IsKept network) (sym base) kept);
     crossed = subst (λ n. Flag n (view_of state) state.crossed) (sym timing) (subst (λ v. Flag network v state.crossed) (sym view) known);

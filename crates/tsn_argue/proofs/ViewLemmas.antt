@@ -122,12 +122,11 @@ abbrev pub Flag : Network → model.View → Bool → Type 0
 Flag network view told = MatchBool told (IsImpossible network view) (IsImpossible network view → ⊥)
 
 -- the view becomes another one, and nothing else changes
-becomes : (old new : View) (after : model.View) → IsSound old → new.timing.now ≡ old.timing.now → new.orders.network ≡ old.orders.network
+becomes : (old new : View) (after : model.View) → IsSound old → new.timing.now ≡ old.timing.now
     → base_of new ≡ base_of old → new.base_crossed ≡ old.base_crossed → view_of new ≡ after → IsKept old.timing.now after
     → MatchBool new.crossed (IsImpossible old.timing.now after) (IsImpossible old.timing.now after → ⊥) → Becomes old new after
-becomes old new after sound network orders base flag view kept told = record {
+becomes old new after sound network base flag view kept told = record {
   sound = record {
-    same_network = orders ∙ sound.same_network ∙ sym network;
     view = rw (network, view) kept;
     base = rw (network, base) sound.base;
     crossed = subst (λ n. Flag n (view_of new) new.crossed) (sym network) (subst (λ v. Flag old.timing.now v new.crossed) (sym view) told);
@@ -141,22 +140,22 @@ becomes old new after sound network orders base flag view kept told = record {
 
 -- the view becomes that with a fact
 pub learns : (old new : View) (fact : Fact) → IsSound old → IsFact old.timing.now fact → new.timing.now ≡ old.timing.now
-    → new.orders.network ≡ old.orders.network → base_of new ≡ base_of old → new.base_crossed ≡ old.base_crossed → view_of new ≡ learned (view_of old) fact
+    → base_of new ≡ base_of old → new.base_crossed ≡ old.base_crossed → view_of new ≡ learned (view_of old) fact
     → Told new.crossed old.crossed (Crosses (view_of old) fact) → Becomes old new (learned (view_of old) fact)
-learns old new fact sound is network orders base flag view told =
-    becomes old new (learned (view_of old) fact) sound network orders base flag view (IsKept-learned old.timing.now (view_of old) fact sound.view is)
+learns old new fact sound is network base flag view told =
+    becomes old new (learned (view_of old) fact) sound network base flag view (IsKept-learned old.timing.now (view_of old) fact sound.view is)
     (flag_or old.crossed new.crossed _ _ _ sound.crossed told (impossible_with old.timing.now (view_of old) sound.view fact is)
     (impossible_parts old.timing.now (view_of old) fact))
 
 -- a decision makes no view impossible
 pub decided : {E : Type 0} (old new : View) (decision : Decision) → IsSound old → IsConflict old.timing.now decision.triple → new.timing.now ≡ old.timing.now
-    → new.orders.network ≡ old.orders.network → new.low ≡ old.low → new.high ≡ old.high → new.done ≡ old.done → base_of new ≡ base_of old
+    → new.low ≡ old.low → new.high ≡ old.high → new.done ≡ old.done → base_of new ≡ base_of old
     → new.base_crossed ≡ old.base_crossed → new.crossed ≡ old.crossed → (r : Result Unit E) → OnOk r (new.orders.view ≡ old.orders.view ++ decision ∷ [])
     → OnOk r (Becomes old new (learned (view_of old) (order decision)))
 unfolding learned
-decided old new decision sound conflict network orders low high done base flag crossed (Err e) view = tt
-decided old new decision sound conflict network orders low high done base flag crossed (Ok u) view =
-    learns old new (order decision) sound conflict network orders base flag
+decided old new decision sound conflict network low high done base flag crossed (Err e) view = tt
+decided old new decision sound conflict network low high done base flag crossed (Ok u) view =
+    learns old new (order decision) sound conflict network base flag
     (λ k. record { low = (low k).view; high = (high k).view; orders = view k; done_low = (done k).low; done_high = (done k).high })
     (subst (λ told. Told told old.crossed ⊥) (sym crossed) (same_told old.crossed))
 

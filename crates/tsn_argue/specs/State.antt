@@ -24,7 +24,6 @@ pub record IsKept (network : Network) (view : model.View) : Type 0 where
 
 -- the view and the ground are kept, and it is told whether they are impossible
 pub record IsSound (state : View) : Type 0 where
-  pub same_network : state.orders.network ≡ state.timing.now
   pub view : IsKept state.timing.now (view_of state)
   pub base : IsKept state.timing.now (base_of state)
   pub crossed : MatchBool state.crossed (IsImpossible state.timing.now (view_of state)) (IsImpossible state.timing.now (view_of state) → ⊥)

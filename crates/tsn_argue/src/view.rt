@@ -31,7 +31,7 @@ pub struct View<'a> {
     pub low: Numbers,
     /// The greatest offset of each stream.
     pub high: Numbers,
-    pub orders: Decided<'a>,
+    pub orders: Decided,
     /// The flowspan.
     pub done: Ends,
     pub crossed: bool,
@@ -60,7 +60,7 @@ impl<'a> View<'a> {
             timing,
             low,
             high,
-            orders: Decided::none(alloc, timing)?,
+            orders: Decided::none(alloc),
             done,
             crossed,
             base_done: done,

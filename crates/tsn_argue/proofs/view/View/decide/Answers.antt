@@ -4,5 +4,5 @@ use Rattle.tsn_argue.proofs.ViewLemmas.{decided}
 use Rattle.tsn_argue.proofs.view.View.decide.Goals as goal
 
 pub returns : goal.returns
-returns c = decided c.args.self.now _ c.args.decision c.requires.sound c.requires.fact refl c.push.ensures.network refl refl refl
+returns c = decided c.args.self.now _ c.args.decision c.requires.sound c.requires.fact refl refl refl refl
     (ap (λ ds. record (base_of c.args.self.now) { orders = ds }) c.push.ensures.base) refl refl c.push.result c.push.ensures.view

@@ -9,6 +9,6 @@ pub returns : goal.returns
 unfolding learned
 returns c =
     let old = c.args.self.now in
-    learns old _ (done_until c.args.number) c.requires tt refl refl refl refl
+    learns old _ (done_until c.args.number) c.requires tt refl refl refl
     (ap (λ x. record (view_of old) { done_high = x }) (omega (arith, ints, clamps, c.min-self.ensures)))
     (told_by _ _ _ _ _ c.or_above-self.ensures (λ past. omega (arith, ints, past)) (λ past. omega (arith, ints, past)))
