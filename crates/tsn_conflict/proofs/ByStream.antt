@@ -28,10 +28,13 @@ numbers_first-more : (triples : List Triple) (stream n : ℕ)
     → numbers_first triples stream (n + 1) ≡ numbers_first triples stream n ++ cond (has_stream stream (triple_at triples n)) (n ∷ []) []
 numbers_first-more triples stream n = grind (arith, range_more, filter-append)
 
-pub number_taken : (triples : List Triple) (stream n : ℕ) → has_stream stream (triple_at triples n) ≡ true → numbers_first triples stream (n + 1) ≡ numbers_first triples stream n ++ n ∷ []
-number_taken triples stream n has = cc (numbers_first-more triples stream n, cond-true (has_stream stream (triple_at triples n)) (n ∷ []) [] has)
+pub number_taken : (triples : List Triple) (stream n : ℕ) → has_stream stream (triple_at triples n) ≡ true
+    → numbers_first triples stream (n + 1) ≡ numbers_first triples stream n ++ n ∷ []
+number_taken triples stream n has =
+    cc (numbers_first-more triples stream n, cond-true (has_stream stream (triple_at triples n)) (n ∷ []) [] has)
 
-pub number_skipped : (triples : List Triple) (stream n : ℕ) → has_stream stream (triple_at triples n) ≡ false → numbers_first triples stream (n + 1) ≡ numbers_first triples stream n
+pub number_skipped : (triples : List Triple) (stream n : ℕ) → has_stream stream (triple_at triples n) ≡ false
+    → numbers_first triples stream (n + 1) ≡ numbers_first triples stream n
 number_skipped triples stream n lacks = cc (
   numbers_first-more triples stream n,
   cond-false (has_stream stream (triple_at triples n)) (n ∷ []) [] lacks,
@@ -45,11 +48,13 @@ numbers_with_is triples stream = refl
 -- ---- listing them for all streams at once
 
 pub number_pushed : (lists : List Numbers) (stream number : ℕ) (was now : Numbers) → stream < length lists → was ≡ get_or lists stream was
-    → now.numbers.items ≡ was.numbers.items ++ number ∷ [] → numbers_in (set lists stream now) ≡ with_number (numbers_in lists) stream number
+    → now.numbers.items ≡ was.numbers.items ++ number ∷ []
+    → numbers_in (set lists stream now) ≡ with_number (numbers_in lists) stream number
 number_pushed lists stream number was now below is more =
     map-set (λ (list : Numbers). list.numbers.items) lists stream now
     ∙ ap (set (numbers_in lists) stream) (more
-    ∙ ap (λ xs. xs ++ number ∷ []) (ap (λ (list : Numbers). list.numbers.items) is ∙ sym (get_or-map (λ (list : Numbers). list.numbers.items) lists stream was [] below)))
+    ∙ ap (λ xs. xs ++ number ∷ [])
+    (ap (λ (list : Numbers). list.numbers.items) is ∙ sym (get_or-map (λ (list : Numbers). list.numbers.items) lists stream was [] below)))
 
 -- each list has its stream's numbers among the first n triples
 pub record AreFirst (triples : List Triple) (streams n : ℕ) (lists : List (List ℕ)) : Type 0 where
@@ -115,7 +120,8 @@ unfolding numbers_with
 no_triple stream = refl
 
 -- one empty list more
-pub none_more : (lists now : List Numbers) (new : Numbers) (n : ℕ) → numbers_in lists ≡ map (numbers_with []) (range_with_len 0 n) → now ≡ lists ++ new ∷ []
+pub none_more : (lists now : List Numbers) (new : Numbers) (n : ℕ) → numbers_in lists ≡ map (numbers_with []) (range_with_len 0 n)
+    → now ≡ lists ++ new ∷ []
     → new.numbers.items ≡ [] → numbers_in now ≡ map (numbers_with []) (range_with_len 0 (n + 1))
 none_more lists now new n made more is =
     ap numbers_in more ∙ map-append (λ (list : Numbers). list.numbers.items) lists (new ∷ [])
@@ -128,7 +134,8 @@ pub none_first : (triples : List Triple) (streams : ℕ) (lists : List (List ℕ
 unfolding numbers_with
 none_first triples streams lists made = record {
   long = ap length made ∙ length-map-range_with_len (numbers_with []) 0 streams;
-  each = λ stream below. ap (λ ls. get_or ls stream []) made ∙ get_or-map-range_with_len (numbers_with []) 0 streams stream stream [] below (omega arith);
+  each = λ stream below. ap (λ ls. get_or ls stream []) made
+      ∙ get_or-map-range_with_len (numbers_with []) 0 streams stream stream [] below (omega arith);
 }
 
 pub all_first : (triples : List Triple) (streams n : ℕ) (lists : List (List ℕ)) → length triples ≡ n → AreFirst triples streams n lists
@@ -142,10 +149,13 @@ all_first triples streams n lists all first =
     ∙ sym (get_or-map-range_with_len (numbers_with triples) 0 streams stream stream [] below (omega arith)))
 
 -- the lists of the streams are as many as the streams, and each is its stream's
-pub lists_long : (lists : List Numbers) (triples : List Triple) (streams : ℕ) → numbers_in lists ≡ map (numbers_with triples) (range_with_len 0 streams) → length lists ≡ streams
-lists_long lists triples streams made = sym (length-numbers_in lists) ∙ ap length made ∙ length-map-range_with_len (numbers_with triples) 0 streams
+pub lists_long : (lists : List Numbers) (triples : List Triple) (streams : ℕ)
+    → numbers_in lists ≡ map (numbers_with triples) (range_with_len 0 streams) → length lists ≡ streams
+lists_long lists triples streams made =
+    sym (length-numbers_in lists) ∙ ap length made ∙ length-map-range_with_len (numbers_with triples) 0 streams
 
-pub list_of : (lists : List Numbers) (triples : List Triple) (streams stream : ℕ) (none : Numbers) → numbers_in lists ≡ map (numbers_with triples) (range_with_len 0 streams) → stream < streams
+pub list_of : (lists : List Numbers) (triples : List Triple) (streams stream : ℕ) (none : Numbers)
+    → numbers_in lists ≡ map (numbers_with triples) (range_with_len 0 streams) → stream < streams
     → (get_or lists stream none).numbers.items ≡ numbers_with triples stream
 list_of lists triples streams stream none made below =
     let long = lists_long lists triples streams made in
@@ -160,17 +170,23 @@ list_of lists triples streams stream none made below =
 module _ (triples : List Triple) (stream : ℕ) where
   ascending : AllPairs (λ i j. i < j) (numbers_with triples stream)
   unfolding numbers_with
-  ascending = AllPairs-filter (λ i j. i < j) (λ number. has_stream stream (triple_at triples number)) (range_with_len 0 (length triples)) (AllPairs-range (length triples) 0)
+  ascending = AllPairs-filter (λ i j. i < j) (λ number. has_stream stream (triple_at triples number))
+      (range_with_len 0 (length triples)) (AllPairs-range (length triples) 0)
 
-  listed : (number : ℕ) → number < length triples → has_stream stream (triple_at triples number) ≡ true → Contains (numbers_with triples stream) number
+  listed : (number : ℕ) → number < length triples → has_stream stream (triple_at triples number) ≡ true
+      → Contains (numbers_with triples stream) number
   unfolding numbers_with
-  listed number below has = Contains-filter (λ p. has_stream stream (triple_at triples p)) (range_with_len 0 (length triples)) number (Contains-range (length triples) 0 number (omega arith) (omega arith)) has
+  listed number below has =
+      Contains-filter (λ p. has_stream stream (triple_at triples p)) (range_with_len 0 (length triples)) number
+      (Contains-range (length triples) 0 number (omega arith) (omega arith)) has
 
   -- where the first n of them don't meet, and the n-th isn't below the end, none below the end meets
-  pub apart_with : (uses : List (List Use)) (offsets numbers : List ℕ) (n end : ℕ) → numbers ≡ numbers_with triples stream → end ≤ length triples
+  pub apart_with : (uses : List (List Use)) (offsets numbers : List ℕ) (n end : ℕ) → numbers ≡ numbers_with triples stream
+      → end ≤ length triples
       → (n < length numbers → end ≤ get_or numbers n 0)
       → ((k : ℕ) → k < n → Meets uses offsets (triple_at triples (get_or numbers k 0)) → ⊥)
-      → (number : ℕ) → number < end → has_stream stream (triple_at triples number) ≡ true → Meets uses offsets (triple_at triples number) → ⊥
+      → (number : ℕ) → number < end → has_stream stream (triple_at triples number) ≡ true
+      → Meets uses offsets (triple_at triples number) → ⊥
   apart_with uses offsets numbers n end are within beyond apart number before has meets =
       let found : Contains numbers number = subst (λ ps. Contains ps number) (sym are) (listed number (omega arith) has) in
       let order : AllPairs (λ i j. i < j) numbers = subst (AllPairs (λ i j. i < j)) (sym are) ascending in

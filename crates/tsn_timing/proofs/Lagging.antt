@@ -92,8 +92,10 @@ module _ (network : Network) (i j : ℕ) (above below : ℤ) where
       let less = after.below in
       record { second = after.second; sent = after.sent; is = after.is; above = after.above; below = omega (arith, ints, less, within) }
 
-  pub between_more : (n first : ℕ) (least lesser : ℤ) → n < length (shifts network i) → first ≡ get_or (shifts network i) n 0 → lesser ≤ℤ least
-      → (lesser ≡ least) ⊎ IsAfter network j first above least lesser → ((lag : ℤ) → IsAfter network j first above least lag → lesser ≤ℤ lag)
+  pub between_more : (n first : ℕ) (least lesser : ℤ) → n < length (shifts network i) → first ≡ get_or (shifts network i) n 0
+      → lesser ≤ℤ least
+      → (lesser ≡ least) ⊎ IsAfter network j first above least lesser
+      → ((lag : ℤ) → IsAfter network j first above least lag → lesser ≤ℤ lag)
       → IsLeastSoFar n least → IsLeastSoFar (n + 1) lesser
   between_more n first least lesser inside is no_more reached least_of before =
       let within = before.within in
@@ -101,7 +103,11 @@ module _ (network : Network) (i j : ℕ) (above below : ℤ) where
         within = omega (arith, ints, within, no_more);
         reached = elim reached [
           | inl same ↦ subst (λ l. (l ≡ below) ⊎ IsBetween network i j above below l) (sym same) before.reached
-          | inr after ↦ inr (record { first = first; sent = subst (Sends network i) (sym is) (Contains-get_or (shifts network i) n 0 inside); after = wider first least lesser within after })
+          | inr after ↦ inr (record {
+            first = first;
+            sent = subst (Sends network i) (sym is) (Contains-get_or (shifts network i) n 0 inside);
+            after = wider first least lesser within after;
+          })
         ];
         least_of = λ k counted lag after. elim (cases_lt k n) [
           | inl earlier ↦ let old = before.least_of k earlier lag after in omega (arith, ints, old, no_more)
@@ -114,15 +120,18 @@ module _ (network : Network) (i j : ℕ) (above below : ℤ) where
         ];
       }
 
-  pub between_all : (n : ℕ) (least : ℤ) → length (shifts network i) ≤ n → IsLeastSoFar n least → (lag : ℤ) → IsBetween network i j above below lag
+  pub between_all : (n : ℕ) (least : ℤ) → length (shifts network i) ≤ n → IsLeastSoFar n least → (lag : ℤ)
+      → IsBetween network i j above below lag
       → least ≤ℤ lag
   between_all n least all done lag between =
       let at = between.sent in
       let place = at.1 in
-      let first : get_or (shifts network i) at.0 0 ≡ between.first = sym (get_or_default_zero (shifts network i) at.0 between.first place) ∙ at.2 in
+      let first : get_or (shifts network i) at.0 0 ≡ between.first =
+      sym (get_or_default_zero (shifts network i) at.0 between.first place) ∙ at.2 in
       done.least_of at.0 (omega arith) lag (subst (λ f. IsAfter network j f above below lag) (sym first) between.after)
 
-  pub between_found : (n : ℕ) (least : ℤ) → length (shifts network i) ≤ n → IsLeastSoFar n least → least <ℤ below → IsLeastBetween network i j above below least
+  pub between_found : (n : ℕ) (least : ℤ) → length (shifts network i) ≤ n → IsLeastSoFar n least → least <ℤ below
+      → IsLeastBetween network i j above below least
   between_found n least all done less = record {
     between = elim done.reached [ inl same ↦ absurd (omega (arith, ints, same, less)) | inr between ↦ between ];
     least = between_all n least all done;
@@ -140,7 +149,8 @@ module _ (network : Network) (i j : ℕ) (above below : ℤ) where
 module _ (network : Network) (i j : ℕ) (lag given : ℤ) (not_after : lag <ℤ pos (period_of network i))
     (not_before : pos 0 <ℤ (lag +ℤ pos (period_of network j))) where
   -- by a search of the later one's frames
-  pub lag_judged_back : (found : Bool) → given ≡ neg_ℤ lag → MatchBool found (ComesAfter network j i given) (ComesAfter network j i given → ⊥)
+  pub lag_judged_back : (found : Bool) → given ≡ neg_ℤ lag
+      → MatchBool found (ComesAfter network j i given) (ComesAfter network j i given → ⊥)
       → MatchBool found (IsLag network i j lag) (IsLag network i j lag → ⊥)
   lag_judged_back true is after =
       let back = after.is in

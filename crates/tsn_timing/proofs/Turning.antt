@@ -35,12 +35,14 @@ module _ (network : Network) (i : ℕ) where
       let more = suc-mul n (burst_of network i) in
       omega arith
 
-  each_turn : (P : ℕ → Type 0) (a n : ℕ) → ((turn place : ℕ) → a ≤ turn → turn < a + n → place < burst_of network i → P (of_place network i turn place))
+  each_turn : (P : ℕ → Type 0) (a n : ℕ)
+      → ((turn place : ℕ) → a ≤ turn → turn < a + n → place < burst_of network i → P (of_place network i turn place))
       → All P (turns_from a n)
   each_turn P a n each =
       All-flat_map P (of_turn network i (burst_of network i)) (range_with_len a n)
       (All-range (λ turn. All P (of_turn network i (burst_of network i) turn)) n a
-      (λ turn low high. All-map-range P (of_place network i turn) (burst_of network i) 0 (λ place _ inside. each turn place low high (omega arith))))
+      (λ turn low high. All-map-range P (of_place network i turn) (burst_of network i) 0
+      (λ place _ inside. each turn place low high (omega arith))))
 
   turns_split : (a m n k : ℕ) → k ≡ m + n → turns_from a k ≡ turns_from a m ++ turns_from (a + m) n
   turns_split a m n k is =
@@ -60,7 +62,8 @@ module _ (network : Network) (i : ℕ) where
         let middle : done + (begun - done) ≡ begun = omega arith in
         sym (all_turns network i) ∙ turns_split 0 done (turns_of network i - done) (turns_of network i) (omega arith)
         ∙ ap (λ a. turns_from 0 done ++ turns_from a (turns_of network i - done)) start
-        ∙ ap (λ xs. turns_from 0 done ++ xs) (turns_split done (begun - done) (turns_of network i - begun) (turns_of network i - done) (omega arith)
+        ∙ ap (λ xs. turns_from 0 done ++ xs)
+        (turns_split done (begun - done) (turns_of network i - begun) (turns_of network i - done) (omega arith)
         ∙ ap (λ a. part ++ turns_from a (turns_of network i - begun)) middle)
 
     pub part_taken : (first last : ℕ) → first ≡ done * burst_of network i → last ≡ begun * burst_of network i
@@ -69,13 +72,16 @@ module _ (network : Network) (i : ℕ) where
         let before = length_turns 0 done in
         let inside = length_turns done (begun - done) in
         let whole_part : begun ≡ done + (begun - done) = omega arith in
-        let split : begun * burst_of network i ≡ done * burst_of network i + (begun - done) * burst_of network i = ap (λ n. n * burst_of network i) whole_part
+        let split : begun * burst_of network i ≡ done * burst_of network i + (begun - done) * burst_of network i =
+        ap (λ n. n * burst_of network i) whole_part
         ∙ add-mul done (begun - done) (burst_of network i) in
-        ap (λ xs. take (last - first) (drop first xs)) whole ∙ ap (take (last - first)) (drop_at (turns_from 0 done) (part ++ rest) first (omega arith))
+        ap (λ xs. take (last - first) (drop first xs)) whole
+        ∙ ap (take (last - first)) (drop_at (turns_from 0 done) (part ++ rest) first (omega arith))
         ∙ take_at part rest (last - first) (omega arith)
 
     pub is_part : (low high : ℤ) → ((turn : ℕ) → turn < done → pos (turn * period_of network i + spread network i) ≤ℤ low)
-        → ((turn : ℕ) → begun ≤ turn → turn < turns_of network i → high ≤ℤ pos (turn * period_of network i)) → IsPartBetween network i low high part
+        → ((turn : ℕ) → begun ≤ turn → turn < turns_of network i → high ≤ℤ pos (turn * period_of network i))
+        → IsPartBetween network i low high part
     is_part low high early late = record {
       before = turns_from 0 done;
       after = rest;

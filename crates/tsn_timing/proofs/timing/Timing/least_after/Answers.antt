@@ -37,8 +37,10 @@ loop-second-preserved c =
           subst (IsLeastAfter network j first above below part (n + 1)) (sym w.least-is)
           (after_left network j first above below part n old lag refl
           (λ over. elim w.else-above-lag.branch [
-            | else-above-lag-via-then-above-lag+else-lag-least v ↦ let no_less = v.if-lag-least.false in omega (arith, ints, no_less, small, soon)
-            | else-above-lag-via-else-above-lag v ↦ let no_more = v.if-above-lag.false in absurd (omega (arith, ints, no_more, over, small, soon))
+            | else-above-lag-via-then-above-lag+else-lag-least v ↦ let no_less = v.if-lag-least.false in
+                omega (arith, ints, no_less, small, soon)
+            | else-above-lag-via-else-above-lag v ↦ let no_more = v.if-above-lag.false in
+                absurd (omega (arith, ints, no_more, over, small, soon))
           ])
           c.loop-second.invariant)
     ]
@@ -57,4 +59,5 @@ returns-clause-least c =
     after_all network j first _ _ c.shifts_between-second-items.result.now _ _ c.shifts_between-second-items.ensures.part
     (omega (arith, ints, soon, low, above)) (omega (arith, ints, soon, high, below))
     c.loop-second.second-index (to_z w64 c.loop-second.least-bits) c.loop-second-test.false c.loop-second.invariant lag
-    (subst (λ low. IsAfter network j first low (to_z w64 (of_z w64 c.args.below)) lag) above (subst (λ high. IsAfter network j first c.args.above high lag) below after))
+    (subst (λ low. IsAfter network j first low (to_z w64 (of_z w64 c.args.below)) lag) above
+    (subst (λ high. IsAfter network j first c.args.above high lag) below after))

@@ -48,7 +48,8 @@ returns-clause-part c =
     let first = done * c.burst-burst.result in
     let last = begun * c.burst-burst.result in
     let taken : take (last - first) (drop first c.shifts.result.now) ≡ part network i done begun ordered within =
-    ap (λ xs. take (last - first) (drop first xs)) c.shifts.ensures.value ∙ part_taken network i done begun ordered within _ _ (ap (λ b. done * b) burst) (ap (λ b. begun * b) burst) in
+    ap (λ xs. take (last - first) (drop first xs)) c.shifts.ensures.value
+    ∙ part_taken network i done begun ordered within _ _ (ap (λ b. done * b) burst) (ap (λ b. begun * b) burst) in
     let period = c.period-period.ensures.value in
     rw taken (is_part network i done begun ordered within c.args.low c.args.high
     (λ turn below.
