@@ -361,7 +361,7 @@ def a_set_that_is_packed(case):
 
 @kind
 def a_long_set(case):
-    return changed_list(case, 3, lambda move, some: some.extend(case.frame() for _ in range(case.chance.choice([127, 128, 1023, 1024]))))
+    return changed_list(case, 3, lambda move, some: some.extend(case.frame() for _ in range(case.chance.choice([127, 128, 65535, 65536]))))
 
 
 @kind

@@ -1,6 +1,6 @@
 -- What a search shows that has left nothing open, and one that was stopped.
 use Rattle.std.proofs.Common.{◌≡◌, ℕ, ◌+◌, ◌-◌, ◌^◌, ◌≤◌, ◌<◌, ◌⊎◌, inl, inr, List, [], ◌∷◌, length, Option, Some, None, MatchOption, Contains, refl, sym, ap, ◌∙◌, subst, arith}
-use Rattle.tsn_model.specs.Network.{Network, IsWellFormed}
+use Rattle.tsn_model.specs.Network.{Network, IsWellFormed, HasFewStreams}
 use Rattle.tsn_model.specs.Schedule.{IsValid, flowspan, target_of, IsFirst, HasNoSchedule}
 use Rattle.tsn_model.specs.Arcs.{conflicts_of}
 use Rattle.tsn_model.specs.Certificate.{AcceptsBy, AcceptsFirst, IsNodeShown}
@@ -26,7 +26,7 @@ use Rattle.tsn_cert.specs.ArgumentLaws.{ArgumentIsReadAgain}
 use Rattle.tsn_argue.specs.Certified as argue
 use Rattle.tsn_argue.specs.Certified.{argument_verdict, goal_for}
 use Rattle.tsn_answer.specs.Optimum.{AnswersOptimum, FindsOptimum, IsFoundPlan}
-use Rattle.tsn_answer.specs.Answer.{Shows, IsStopped, IsFinished, IsArgued, IsCertOf, IsAnswerReadAgain, IsAnswerShown, IsReadAgain, IsFound, IsOfBook, HasNoneOpen, plan_kept, answer_for, whole_verdict}
+use Rattle.tsn_answer.specs.Answer.{Shows, IsStopped, IsFinished, IsArgued, IsCertOf, IsAnswerReadAgain, IsAnswerShown, IsReadAgain, IsFound, IsOfBook, HasNoneOpen, HasNotGivenUp, plan_kept, answer_for, whole_verdict}
 use Rattle.tsn_answer.specs.declared.found.Found.{Found}
 use Rattle.tsn_answer.specs.declared.found.Found.TheVariants as found
 use Rattle.tsn_book.specs.Book.{Progress, IsLawful}
@@ -213,6 +213,14 @@ pub none_open : (network : Network) (limit : ℕ) (found : Found) → IsFound ne
 none_open network limit (found.Finished book) done = done.none_open
 none_open network limit (found.Argued plan argument) argued = tt
 none_open network limit (found.Stopped book known) stopped = tt
+none_open network limit (found.GaveUp known count) given_up = tt
+
+-- on few streams no search gives up
+pub not_given_up : (network : Network) (limit : ℕ) (found : Found) → HasFewStreams network → IsFound network limit found → HasNotGivenUp found
+not_given_up network limit (found.Finished book) few done = tt
+not_given_up network limit (found.Argued plan argument) few argued = tt
+not_given_up network limit (found.Stopped book known) few stopped = tt
+not_given_up network limit (found.GaveUp known count) few given_up = let many = given_up.many in absurd (omega arith)
 
 -- what is left is the optimum
 kept_first : (network : Network) (kept : Option (List ℕ)) → IsFoundPlan network (plan_kept network kept)
@@ -224,6 +232,7 @@ pub found_optimum : (network : Network) (limit : ℕ) (found : Found) → IsFoun
 found_optimum network limit (found.Finished book) done = kept_first network (kept_of network book.history) done.found
 found_optimum network limit (found.Argued plan argument) argued = argued.found
 found_optimum network limit (found.Stopped book known) stopped = tt
+found_optimum network limit (found.GaveUp known count) given_up = tt
 
 -- the answer of a book that has left nothing open
 pub of_book : (book : Progress) (plan : Plan) (cert : Cert) (count : ℕ) → plan ≡ plan_kept book.network (kept_of book.network book.history)

@@ -47,19 +47,23 @@ pub KeepsKnown-through : (before after : Known) (left : Found) → LosesNothing 
 KeepsKnown-through before after (found.Finished book) loses keeps = tt
 KeepsKnown-through before after (found.Argued plan argument) loses keeps = tt
 KeepsKnown-through before after (found.Stopped book known) loses keeps = LosesNothing-through before after known loses keeps
+KeepsKnown-through before after (found.GaveUp known count) loses keeps = LosesNothing-through before after known loses keeps
 
 pub KeepsKept-through : (network : Network) (book : Progress) (known : Known) (left : Found) → HoldsKept network book known → KeepsKnown known left
     → KeepsKept network book left
 KeepsKept-through network book known (found.Finished other) holds keeps = tt
 KeepsKept-through network book known (found.Argued plan argument) holds keeps = tt
 KeepsKept-through network book known (found.Stopped other later) holds keeps = HoldsKept-through network book known later holds keeps
+KeepsKept-through network book known (found.GaveUp later count) holds keeps = HoldsKept-through network book known later holds keeps
 
 keeps_answered : (known : Known) (later : Found) → HasAnswer later → KeepsKnown known later
 keeps_answered known (found.Finished book) has = tt
 keeps_answered known (found.Argued plan argument) has = tt
 keeps_answered known (found.Stopped book other) has = absurd has
+keeps_answered known (found.GaveUp other count) has = absurd has
 
 pub KeepsFound-through : (known : Known) (first later : Found) → KeepsKnown known first → KeepsFound first later → KeepsKnown known later
 KeepsFound-through known (found.Finished book) later keeps has = keeps_answered known later has
 KeepsFound-through known (found.Argued plan argument) later keeps has = keeps_answered known later has
 KeepsFound-through known (found.Stopped book between) later keeps has = KeepsKnown-through known between later keeps has
+KeepsFound-through known (found.GaveUp between count) later keeps has = KeepsKnown-through known between later keeps has

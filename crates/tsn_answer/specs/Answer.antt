@@ -6,6 +6,7 @@
 --     IsFinished    a search that has left nothing open, and what its book shows
 --     IsArgued      a plan with an argument for it
 --     IsStoppedWith what is known where a search is stopped
+--     HasGivenUp    and where it gave up
 --     IsFound       what a search leaves
 --     IsAnswerShown what shows an answer to a network
 --     IsAnswerReadAgain     the file of its certificate says it
@@ -13,7 +14,7 @@
 --     IsTreeOf, IsToldOf, IsOfBook, IsCounted     what is answered of a book
 --     HasNoArgument, HasAnswer, IsLeft, KeepsKnown, KeepsKept, KeepsFound     what the phases of a search leave to one another
 use Rattle.std.specs.Prelude.{◌≡◌, ◌≤◌, ◌<◌, ◌+◌, ◌-◌, ◌^◌, ℕ, List, [], length, Option, Some, None, MatchOption}
-use Rattle.tsn_model.specs.Network.{Network}
+use Rattle.tsn_model.specs.Network.{Network, stream_count}
 use Rattle.tsn_model.specs.Schedule.{IsValid, flowspan}
 use Rattle.tsn_model.specs.Arcs.{conflicts_of}
 use Rattle.tsn_model.specs.Search.{open_paths, kept_of, best_bound}
@@ -131,17 +132,33 @@ pub record IsStoppedWith (network : Network) (limit : ℕ) (book : Progress) (kn
   pub so : IsKnown network known
   pub kept : HoldsKept network book known
 
--- what a search leaves: nothing open; an argument; or as many nodes settled as it may
+-- the conflict-driven search gave up, after so many conflicts, on a network of so many streams that no other one is made; what is known then is a valid schedule,
+-- if any, and a bound
+pub record HasGivenUp (network : Network) (limit : ℕ) (known : Known) (count : ℕ) : Type 0 where
+  pub many : 128 < stream_count network
+  pub so : IsKnown network known
+  pub within : count ≤ limit
+
+-- what a search leaves: nothing open; an argument; as many nodes settled as it may; or what is known of many streams
 abbrev pub IsFound : Network → ℕ → Found → Type 0
 IsFound network limit (found.Finished book) = IsFinished network limit book
 IsFound network limit (found.Argued plan argument) = IsArgued network limit plan argument
 IsFound network limit (found.Stopped book known) = IsStoppedWith network limit book known
+IsFound network limit (found.GaveUp known count) = HasGivenUp network limit known count
 
 -- nothing is open in a book that is finished
 abbrev pub HasNoneOpen : Found → Type 0
 HasNoneOpen (found.Finished book) = open_paths book.history ≡ []
 HasNoneOpen (found.Argued plan argument) = Unit {0}
 HasNoneOpen (found.Stopped book known) = Unit {0}
+HasNoneOpen (found.GaveUp known count) = Unit {0}
+
+-- the search didn't give up
+abbrev pub HasNotGivenUp : Found → Type 0
+HasNotGivenUp (found.Finished book) = Unit {0}
+HasNotGivenUp (found.Argued plan argument) = Unit {0}
+HasNotGivenUp (found.Stopped book known) = Unit {0}
+HasNotGivenUp (found.GaveUp known count) = ⊥
 
 -- ---- what was asked for
 
@@ -161,6 +178,7 @@ abbrev pub IsFoundBy : Effort → Found → Type 0
 IsFoundBy effort (found.Finished book) = Unit {0}
 IsFoundBy effort (found.Argued plan argument) = MayArgue effort.method effort.limit
 IsFoundBy effort (found.Stopped book known) = Unit {0}
+IsFoundBy effort (found.GaveUp known count) = Unit {0}
 
 -- and what is answered
 abbrev pub IsAnswerBy : Effort → Answer → Type 0
@@ -201,41 +219,48 @@ abbrev pub IsCounted : Found → Answer → Type 0
 IsCounted (found.Finished book) answer = IsOfBook book answer
 IsCounted (found.Argued plan argument) answer = HasTree answer → ⊥
 IsCounted (found.Stopped book known) answer = IsOfBook book answer
+IsCounted (found.GaveUp known count) answer = ⊥
 
 -- ---- the phases of a search
 
--- what is left is a book, and no argument
+-- what is left is a book
 abbrev pub HasNoArgument : Found → Type 0
 HasNoArgument (found.Finished book) = Unit {0}
 HasNoArgument (found.Argued plan argument) = ⊥
 HasNoArgument (found.Stopped book known) = Unit {0}
+HasNoArgument (found.GaveUp known count) = ⊥
 
 -- what is left is this book
 abbrev pub IsLeft : Progress → Found → Type 0
 IsLeft book (found.Finished left) = left ≡ book
 IsLeft book (found.Argued plan argument) = ⊥
 IsLeft book (found.Stopped left known) = left ≡ book
+IsLeft book (found.GaveUp known count) = ⊥
 
 -- where it is stopped, nothing is lost of what was known before
 abbrev pub KeepsKnown : Known → Found → Type 0
 KeepsKnown before (found.Finished book) = Unit {0}
 KeepsKnown before (found.Argued plan argument) = Unit {0}
 KeepsKnown before (found.Stopped book known) = LosesNothing before known
+KeepsKnown before (found.GaveUp known count) = LosesNothing before known
 
 -- nor the schedule that an earlier book has kept
 abbrev pub KeepsKept : Network → Progress → Found → Type 0
 KeepsKept network earlier (found.Finished book) = Unit {0}
 KeepsKept network earlier (found.Argued plan argument) = Unit {0}
 KeepsKept network earlier (found.Stopped book known) = HoldsKept network earlier known
+KeepsKept network earlier (found.GaveUp known count) = HoldsKept network earlier known
 
 -- it wasn't stopped
 abbrev pub HasAnswer : Found → Type 0
 HasAnswer (found.Finished book) = Unit {0}
 HasAnswer (found.Argued plan argument) = Unit {0}
 HasAnswer (found.Stopped book known) = ⊥
+HasAnswer (found.GaveUp known count) = ⊥
 
 -- nor what was known where an earlier search was stopped; and one that has answered stays so
 abbrev pub KeepsFound : Found → Found → Type 0
 KeepsFound (found.Finished book) later = HasAnswer later
 KeepsFound (found.Argued plan argument) later = HasAnswer later
 KeepsFound (found.Stopped book known) later = KeepsKnown known later
+KeepsFound (found.GaveUp known count) later = KeepsKnown known later

@@ -10,7 +10,7 @@ use Rattle.tsn_cert.specs.declared.plan.Plan.{Plan}
 use Rattle.tsn_cert.specs.declared.plan.Plan.TheVariants.{Schedule, None}
 use Rattle.tsn_check.specs.Plans.{IsFirstPlan}
 use Rattle.tsn_answer.specs.declared.found.Found.{Found}
-use Rattle.tsn_answer.specs.declared.found.Found.TheVariants.{Finished, Argued, Stopped}
+use Rattle.tsn_answer.specs.declared.found.Found.TheVariants.{Finished, Argued, Stopped, GaveUp}
 use Rattle.tsn_answer.specs.declared.answer.Answer.{Answer}
 use Rattle.tsn_answer.specs.declared.answer.Answer.TheVariants as answer
 
@@ -20,11 +20,12 @@ IsFoundPlan network (Schedule span offsets) = IsFirstPlan network (Schedule span
 IsFoundPlan network None = HasNoSchedule network
 
 -- a book that is finished has kept the first optimal schedule, or none, and then no list of offsets is valid; so says the plan that an argument shows; a
--- search that was stopped claims neither
+-- search that was stopped, or gave up, claims neither
 abbrev pub FindsOptimum : Network → Found → Type 0
 FindsOptimum network (Finished book) = MatchOption (kept_of network book.history) (HasNoSchedule network) (IsFirst network)
 FindsOptimum network (Argued plan argument) = IsFoundPlan network plan
 FindsOptimum network (Stopped book known) = Unit {0}
+FindsOptimum network (GaveUp known count) = Unit {0}
 
 -- an optimal plan is the first optimal schedule, with its flowspan; no schedule: no list of offsets is valid; a search that was stopped claims neither
 abbrev pub AnswersOptimum : Network → Answer → Type 0

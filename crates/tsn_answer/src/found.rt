@@ -6,7 +6,7 @@ ghost use Rattle.tsn_cert.specs.declared.plan.Plan.TheVariants.{Schedule};
 ghost use Rattle.tsn_answer.specs.declared.effort.Effort.{Effort};
 ghost use Rattle.tsn_answer.specs.Known.{IsKnown};
 ghost use Rattle.tsn_answer.specs.Optimum.{AnswersOptimum};
-ghost use Rattle.tsn_answer.specs.Answer.{IsAnswerBy, IsAnswerReadAgain, IsAnswerShown, IsArgued, IsCertificateBy, IsFinished, IsFound, IsFoundBy, MayArgue, HasNoArgument, HasNoneOpen, HasTree, IsCounted, IsLeft, IsOfBook, IsTree, KeepsKnown, plan_kept, answer_for};
+ghost use Rattle.tsn_answer.specs.Answer.{IsAnswerBy, IsAnswerReadAgain, IsAnswerShown, IsArgued, IsCertificateBy, IsFinished, IsFound, IsFoundBy, MayArgue, HasNoArgument, HasNoneOpen, HasNotGivenUp, HasTree, IsCounted, IsLeft, IsOfBook, IsTree, KeepsKnown, plan_kept, answer_for};
 
 use crate::answer::Answer;
 use crate::known::Known;
@@ -25,6 +25,9 @@ pub enum Found {
     Argued(Plan, Argument),
     /// The limit was met while a node was open; and what is known then.
     Stopped(Book, Known),
+    /// The conflict-driven search gave up, which is the only one where there are more than 128 streams; what is known then, and after
+    /// how many conflicts.
+    GaveUp(Known, usize),
 }
 
 impl Found {
@@ -56,7 +59,8 @@ impl Found {
 
     /// The answer, with its certificate. The error says that there was no memory.
     pub fn into_answer(self, alloc: Global) -> Result<Answer, NoMemory>
-        requires { HasNoneOpen self }
+        requires open { HasNoneOpen self }
+        requires answered { HasNotGivenUp self }
         ensures optimum { IfOk result (λ answer. (network : Network) (limit : ℕ) → IsFound network limit self → AnswersOptimum network answer) }
         ensures shown { IfOk result (λ answer. (network : Network) (limit : ℕ) → IsFound network limit self → IsAnswerShown network limit answer) }
         ensures read_again { IfOk result (λ answer. (network : Network) (limit : ℕ) → IsFound network limit self → IsAnswerReadAgain answer) }
@@ -70,6 +74,7 @@ impl Found {
                 drop(known);
                 Ok(Answer::Stopped(book))
             }
+            Found::GaveUp(..) => unreachable!(),
         }
     }
 }

@@ -41,7 +41,7 @@ impl<'a, S: Supervisor> Hear for Hearer<'a, S> {
 
 /// How many conflicts are told of: as many as there were, and no more than there may be. (Where one comes upon another a question ends a
 /// few later.)
-pub(crate) fn count_of(conflicts: u64, limit: usize) -> usize
+pub fn count_of(conflicts: u64, limit: usize) -> usize
     ensures { result ≡ min limit conflicts }
 {
     limit.min(conflicts as usize)

@@ -6,6 +6,7 @@ ghost use Rattle.tsn_branch.specs.Bound.{IsLowerBound};
 ghost use Rattle.tsn_answer.specs.Known.{HoldsKept, IsKeptIfBest, IsKnown, IsOneOf, KnowsWithin, LosesNothing};
 
 use tsn_book::Book;
+use tsn_branch::least_arrival;
 use tsn_cert::Plan;
 use tsn_model::NoMemory;
 use tsn_timing::{Solved, Timing};
@@ -20,6 +21,16 @@ pub struct Known {
 }
 
 impl Known {
+    /// What is known before any search.
+    pub fn of(timing: &Timing) -> Known
+        ensures { IsKnown timing.now result }
+    {
+        Known {
+            best: None,
+            bound: least_arrival(timing).min(timing.cycle()),
+        }
+    }
+
     /// The offsets of the best schedule, in nanoseconds, if any.
     pub fn offsets(&self) -> Option<&[u64]> {
         match &self.best {

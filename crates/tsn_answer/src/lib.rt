@@ -15,7 +15,7 @@ pub mod proving;
 pub use answer::Answer;
 pub use effort::{Effort, FILE_ORDER_LIMIT, MAX_LIMIT, MAX_WORKERS};
 pub use found::{Found, plan_of};
-pub use hearer::{Hearer, budget_of};
+pub use hearer::{Hearer, budget_of, count_of};
 pub use known::Known;
 pub use proof::Proof;
 pub use proving::prove;

@@ -9,7 +9,7 @@ use crate::hearer::{Hearer, budget_of, count_of};
 use crate::proof::Proof;
 use std::alloc::Global;
 use tsn_argue::check_argument;
-use tsn_branch::{News, Phase, Prepared, Supervisor, lower_bound};
+use tsn_branch::{FEW_STREAMS, News, Phase, Prepared, Supervisor, least_arrival, lower_bound};
 use tsn_cert::{Argument, Offsets, Plan};
 use tsn_check::{CheckFault, Verdict};
 use tsn_learn::{BestSoFar, LearnAnswer, LeastAnswer, learn, show_least};
@@ -90,6 +90,10 @@ fn bound_for(alloc: Global, problem: &Problem) -> Result<u64, NoMemory>
     ensures lower { IfOk result (IsLowerBound problem.now.network) }
     ensures within_cycle { IfOk result (λ bound. bound ≤ problem.now.network.cycle) }
 {
+    let timing = problem.timing();
+    if timing.streams() > FEW_STREAMS {
+        return Ok(least_arrival(timing).min(timing.cycle()));
+    }
     let prepared = Prepared::of(alloc, problem)?;
     let nobody = tsn_branch::NoSupervisor;
     let setting = prepared.setting(alloc, &nobody);

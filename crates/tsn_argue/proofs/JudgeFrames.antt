@@ -1,7 +1,7 @@
 -- Frames of a move, judged one after another.
-use Rattle.std.proofs.Common.{◌≡◌, ◌≢◌, ℕ, zero, suc, ◌+◌, ◌<◌, ◌≤◌, List, [], ◌∷◌, ◌++◌, length, take, get_or, All, AllPairs, Contains, refl, sym, ◌∙◌, subst, inl, inr, arith}
+use Rattle.std.proofs.Common.{◌≡◌, ◌≢◌, ℕ, zero, suc, ◌+◌, ◌<◌, ◌≤◌, List, [], ◌∷◌, ◌++◌, length, take, get_or, AllPairs, Contains, refl, sym, ap, ◌∙◌, subst, inl, inr, arith}
 use Rattle.std.proofs.lemmas.List.{get_or_default, take_more, take_all}
-use Rattle.std.proofs.lemmas.List.Elements.{All-push, All-nil, All-contains}
+use Rattle.std.proofs.lemmas.List.Elements.{All-push, All-nil}
 use Rattle.std.proofs.lemmas.List.Quantifiers.{all_pairs_push}
 use Rattle.std.proofs.lemmas.Option.{slice_get-get_or}
 use Rattle.tsn_model.specs.declared.Frame.{Frame}
@@ -10,8 +10,6 @@ use Rattle.tsn_model.specs.Certificate.{IsFrameOn}
 use Rattle.tsn_model.specs.Argument.{AreOn, AreSome}
 use Rattle.tsn_model.proofs.Lists.{Contains-cons_cases}
 use Rattle.tsn_argue.specs.Faults.{IsWrongFrame, AreWrongOn, IsWrongChoice, AreAmong, AreWrongAmong}
-use Rattle.tsn_argue.specs.Seen.{Tells}
-use Rattle.tsn_argue.specs.declared.seen.Seen.{Seen}
 use Rattle.tsn_check.specs.declared.wrong.Wrong.{Wrong}
 
 no_pairs : AllPairs {X = Frame} ◌≢◌ []
@@ -21,10 +19,10 @@ no_pairs = λ i j d order below. absurd (omega arith)
 differ_push : (xs : List Frame) (y : Frame) → AllPairs ◌≢◌ xs → (Contains xs y → ⊥) → AllPairs ◌≢◌ (xs ++ y ∷ [])
 differ_push xs y differ new = all_pairs_push ◌≢◌ xs y differ (λ k d below same. new (k, below, get_or_default xs k y d below ∙ same))
 
--- the marks tell one more
-pub tells_more : (seen : Seen) (some : List Frame) (k : ℕ) (d : Frame) → k < length some
-    → Tells seen (take k some ++ get_or some k d ∷ []) → Tells seen (take (k + 1) some)
-tells_more seen some k d below told = subst (Tells seen) (sym (take_more some k d below)) told
+-- one more was seen
+pub seen_more : (seen new some : List Frame) (k : ℕ) (d : Frame) → k < length some → seen ≡ take k some → new ≡ seen ++ get_or some k d ∷ []
+    → new ≡ take (k + 1) some
+seen_more seen new some k d below before more = more ∙ ap (λ xs. xs ++ get_or some k d ∷ []) before ∙ sym (take_more some k d below)
 
 module _ (network : Network) (link : ℕ) where
   pub on_none : AreOn network link []
@@ -66,12 +64,6 @@ none_behind first frame others other none has = elim (Contains-cons_cases first 
   | inl same ↦ other (sym same)
   | inr more ↦ none more
 ]
-
--- a frame of a stream that is none of a few isn't in a list of theirs
-pub far_frame : (frames : List Frame) (frame : Frame) → All (λ other. other.stream < 128) frames → 128 ≤ frame.stream → Contains frames frame → ⊥
-far_frame frames frame inside past has =
-    let short = All-contains (λ (other : Frame). other.stream < 128) frames frame inside has in
-    omega arith
 
 module _ (frames : List Frame) where
   pub among_none : AreAmong frames []

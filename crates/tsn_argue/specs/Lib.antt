@@ -2,7 +2,6 @@ pub mod First
 pub mod Certified
 pub mod Faults
 pub mod Numbers
-pub mod Seen
 pub mod News
 pub mod Decided
 pub mod Frames

@@ -5,7 +5,6 @@ ghost use Rattle.tsn_model.specs.declared.bounds.TheConstants.{MAX_OCCUPANCY};
 ghost use Rattle.tsn_model.specs.Timing.{separation};
 ghost use Rattle.tsn_model.specs.Certificate.{IsFrameOn, begin_on, end_on};
 ghost use Rattle.tsn_argue.specs.State.{view_of, IsSound};
-ghost use Rattle.tsn_argue.specs.Seen.{Tells};
 ghost use Rattle.tsn_argue.specs.Loads.{IsLoad};
 ghost use Rattle.tsn_argue.specs.Frames.{FindsOn, FindsFrame, FindsFrames, FindsChoice, FindsOne};
 
@@ -33,86 +32,72 @@ fn judge_on(timing: &Timing, link: usize, frame: Frame) -> Result<(), Wrong>
     }
 }
 
-/// Whether a frame, behind others, is on the link and isn't one of the others. Of these the first isn't marked.
+/// Whether a frame is on the link, and is neither the first nor one that was seen; it is seen then.
 fn judge_frame(
     timing: &Timing,
     link: usize,
     first: Frame,
-    others: &[Frame],
-    seen: &Seen,
+    seen: &mut Seen,
     frame: Frame,
 ) -> Result<(), Wrong>
-    requires { Tells seen.now others.now }
-    ensures { FindsFrame timing.now link (first ∷ others.now) frame result }
+    requires { length seen.old < 65_536 }
+    ensures { FindsFrame timing.now link first seen.old seen.new frame result }
 {
-    let _count = timing.streams();
     judge_on(timing, link, frame)?;
     if is_same(frame, first) {
         return Err(Wrong::Repeated(frame));
     }
-    if seen.has(others, frame) {
-        return Err(Wrong::Repeated(frame));
+    if seen.add(frame) {
+        Ok(())
+    } else {
+        Err(Wrong::Repeated(frame))
     }
-    Ok(())
 }
 
-/// The frames behind the first, which are told by a mark each, if all are on the link and different; else what is wrong with
-/// the first that isn't right.
+/// Whether the frames are on the link and different, and then those behind the first are seen; else what is wrong with the first
+/// that isn't right.
 pub fn judge_frames(
     timing: &Timing,
     link: usize,
     first: Frame,
     others: &[Frame],
-) -> Result<Seen, Wrong>
-    ensures { FindsFrames timing.now link first others.now result }
-{
-    let _count = timing.streams();
-    judge_on(timing, link, first)?;
-    let mut seen = Seen::none();
-    for number in 0..others.len() {
-        let frame = others[number];
-        judge_frame(timing, link, first, &others[..number], &seen, frame)?;
-        seen.add(frame);
-    }
-    Ok(seen)
-}
-
-/// Whether a frame, behind others, is one of these frames and none of the others.
-fn judge_one(
-    frames: &[Frame],
-    all: &Seen,
-    before: &[Frame],
-    seen: &Seen,
-    frame: Frame,
+    seen: &mut Seen,
 ) -> Result<(), Wrong>
-    requires all { Tells all.now frames.now }
-    requires seen { Tells seen.now before.now }
-    ensures finds { FindsOne frames.now before.now frame result }
-    ensures small { OnOk result (frame.stream < 128) }
+    requires { length others.now ≤ 65_536 }
+    ensures { FindsFrames timing.now link first others.now seen.new result }
 {
-    if frame.stream >= 128 {
-        return Err(Wrong::NotAmong(frame));
-    }
-    if !all.has(frames, frame) {
-        return Err(Wrong::NotAmong(frame));
-    }
-    if seen.has(before, frame) {
-        return Err(Wrong::Repeated(frame));
+    judge_on(timing, link, first)?;
+    seen.clear();
+    for frame in others {
+        judge_frame(timing, link, first, seen, *frame)?;
     }
     Ok(())
 }
 
-/// Whether some of the frames, which are marked, are each among these once; else what is wrong with the first that isn't.
-pub fn judge_choice(frames: &[Frame], all: &Seen, some: &[Frame]) -> Result<(), Wrong>
+/// Whether a frame is one of these frames, and none that was seen; it is seen then.
+fn judge_one(frames: &Seen, seen: &mut Seen, frame: Frame) -> Result<(), Wrong>
+    requires { length seen.old < 65_536 }
+    ensures { FindsOne frames.now seen.old seen.new frame result }
+{
+    if !frames.has(frame) {
+        return Err(Wrong::NotAmong(frame));
+    }
+    if seen.add(frame) {
+        Ok(())
+    } else {
+        Err(Wrong::Repeated(frame))
+    }
+}
+
+/// Whether some of the frames are each among these once; else what is wrong with the first that isn't.
+pub fn judge_choice(frames: &Seen, some: &[Frame], seen: &mut Seen) -> Result<(), Wrong>
     requires some { 1 ≤ length some.now }
-    requires all { Tells all.now frames.now }
+    requires few { length some.now ≤ 65_536 }
     ensures { FindsChoice frames.now some.now result }
 {
-    let mut seen = Seen::none();
-    for number in 0..some.len() {
-        let frame = some[number];
-        judge_one(frames, all, &some[..number], &seen, frame)?;
-        seen.add(frame);
+    seen.clear();
+    for frame in some {
+        judge_one(frames, seen, *frame)?;
     }
     Ok(())
 }
@@ -162,7 +147,7 @@ pub struct Load {
 impl Load {
     /// With one that comes to this.
     fn with(self, other: Load) -> Load
-        requires { self.work + other.work ≤ 2_000_000_000 }
+        requires { self.work + other.work ≤ 100_000_000_000 }
         ensures head { result.head ≡ int_min self.head other.head }
         ensures end { result.end ≡ int_max self.end other.end }
         ensures work { result.work ≡ self.work + other.work }
@@ -195,7 +180,7 @@ pub fn load_with(view: &View<'_>, link: usize, first: Frame, others: &[Frame]) -
     requires sound { IsSound view.now }
     requires possible { view.now.crossed ≡ false }
     requires on { All (IsFrameOn view.now.timing.now link) (first ∷ others.now) }
-    requires few { length others.now ≤ 1024 }
+    requires few { length others.now ≤ 65_536 }
     ensures { IsLoad view.now.timing.now (view_of view.now) link (first ∷ others.now) result }
 {
     let mut load = load_of(view, link, first);
@@ -212,7 +197,7 @@ pub fn load_all(view: &View<'_>, link: usize, frames: &[Frame]) -> Load
     requires possible { view.now.crossed ≡ false }
     requires some { 1 ≤ length frames.now }
     requires on { All (IsFrameOn view.now.timing.now link) frames.now }
-    requires few { length frames.now ≤ 1024 }
+    requires few { length frames.now ≤ 65_536 }
     ensures { IsLoad view.now.timing.now (view_of view.now) link frames.now result }
 {
     let [first, others @ ..] = frames else {

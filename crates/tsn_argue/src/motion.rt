@@ -16,12 +16,13 @@ ghost use Rattle.tsn_argue.specs.Motion.{facts_of, clauses_of, AreFacts, JudgesM
 
 use crate::link::{judge_choice, judge_frames, load_all, load_with, visit_of};
 use crate::news::{News, turned};
+use crate::seen::Marks;
 use crate::uses::{Reader, Use};
 use crate::view::View;
 use tsn_cert::{Clause, Fact, Move, Order, Placing};
 use tsn_check::Wrong;
 use tsn_model::{Arc, Decision, Frame};
-use tsn_timing::{arc_of, is_conflict};
+use tsn_timing::{Timing, arc_of, is_conflict};
 
 /// What a move shows: one fact, or two.
 #[derive(Clone, Copy)]
@@ -116,7 +117,12 @@ impl Basis<'_> {
 }
 
 /// What the move shows of each schedule that fits the view, or what is wrong with it.
-pub fn judge(view: &View<'_>, clauses: &[&Clause], motion: &Move) -> Result<Shown, Wrong>
+pub fn judge(
+    view: &View<'_>,
+    clauses: &[&Clause],
+    motion: &Move,
+    marks: &mut Marks,
+) -> Result<Shown, Wrong>
     requires sound { IsSound view.now }
     requires possible { view.now.crossed ≡ false }
     requires facts { AreFacts view.now.timing.now (clauses_of clauses.now) }
@@ -128,9 +134,9 @@ pub fn judge(view: &View<'_>, clauses: &[&Clause], motion: &Move) -> Result<Show
         Move::Turn(order) => judge_turn(&basis, order.decision()),
         Move::Use(number) => judge_use(&basis, *number),
         Move::Arrive(stream) => judge_arrive(&basis, *stream),
-        Move::Last(placing) => judge_last(&basis, placing),
-        Move::First(placing) => judge_first(&basis, placing),
-        Move::Pack(link, frames) => judge_pack(&basis, *link, frames.list()),
+        Move::Last(placing) => judge_last(&basis, placing, marks),
+        Move::First(placing) => judge_first(&basis, placing, marks),
+        Move::Pack(link, frames) => judge_pack(&basis, *link, frames.list(), marks),
         Move::Round(orders) => judge_round(&basis, orders.list()),
         Move::Follow(known, weaker) => judge_follow(&basis, known.decision(), weaker.decision()),
     }
@@ -252,22 +258,28 @@ fn judge_arrive(basis: &Basis<'_>, stream: usize) -> Result<Shown, Wrong>
 }
 
 /// Whether the frames of a placing are right, whatever it comes to.
-fn judge_placed(view: &View<'_>, placing: &Placing) -> Result<(), Wrong>
-    ensures { FindsPlacing view.now.timing.now placing.now result }
+fn judge_placed(timing: &Timing, placing: &Placing, marks: &mut Marks) -> Result<(), Wrong>
+    ensures { FindsPlacing timing.now placing.now result }
 {
-    let others = placing.others.list();
-    let all = judge_frames(view.timing, placing.link, placing.frame, others)?;
-    judge_choice(others, &all, placing.some.list())
+    let Marks { others, some } = marks;
+    judge_frames(
+        timing,
+        placing.link,
+        placing.frame,
+        placing.others.list(),
+        others,
+    )?;
+    judge_choice(others, placing.some.list(), some)
 }
 
 /// The frame goes last, since the others can't all be done before what they need together.
-fn judge_last(basis: &Basis<'_>, placing: &Placing) -> Result<Shown, Wrong>
+fn judge_last(basis: &Basis<'_>, placing: &Placing, marks: &mut Marks) -> Result<Shown, Wrong>
     requires sound { IsSound basis.now.view.now }
     requires possible { basis.now.view.now.crossed ≡ false }
     ensures { Judges basis.now (put_last placing.now.link placing.now.frame placing.now.others placing.now.some) result }
 {
     let view = basis.view;
-    judge_placed(view, placing)?;
+    judge_placed(view.timing, placing, marks)?;
     let Placing { link, frame, .. } = *placing;
     let list = placing.others.list();
     let others = load_all(view, link, list);
@@ -281,13 +293,13 @@ fn judge_last(basis: &Basis<'_>, placing: &Placing) -> Result<Shown, Wrong>
 }
 
 /// The frame goes first, since the others can't all begin so late that it fits behind one of them.
-fn judge_first(basis: &Basis<'_>, placing: &Placing) -> Result<Shown, Wrong>
+fn judge_first(basis: &Basis<'_>, placing: &Placing, marks: &mut Marks) -> Result<Shown, Wrong>
     requires sound { IsSound basis.now.view.now }
     requires possible { basis.now.view.now.crossed ≡ false }
     ensures { Judges basis.now (put_first placing.now.link placing.now.frame placing.now.others placing.now.some) result }
 {
     let view = basis.view;
-    judge_placed(view, placing)?;
+    judge_placed(view.timing, placing, marks)?;
     let Placing { link, frame, .. } = *placing;
     let list = placing.others.list();
     let others = load_all(view, link, list);
@@ -324,18 +336,23 @@ fn shown_without(
 }
 
 /// Whether the frames have no room on the link.
-fn judge_pack(basis: &Basis<'_>, link: usize, frames: &[Frame]) -> Result<Shown, Wrong>
+fn judge_pack(
+    basis: &Basis<'_>,
+    link: usize,
+    frames: &[Frame],
+    marks: &mut Marks,
+) -> Result<Shown, Wrong>
     requires sound { IsSound basis.now.view.now }
     requires possible { basis.now.view.now.crossed ≡ false }
     requires some { 1 ≤ length frames.now }
-    requires few { length frames.now ≤ 1024 }
+    requires few { length frames.now ≤ 65_536 }
     ensures { Judges basis.now (pack link frames.now) result }
 {
     let view = basis.view;
     let [first, others @ ..] = frames else {
         unreachable!();
     };
-    judge_frames(view.timing, link, *first, others)?;
+    judge_frames(view.timing, link, *first, others, &mut marks.others)?;
     let all = load_all(view, link, frames);
     let bound = all.head + all.work as i128;
     shown_without(link, bound, all.end, false, refuting(basis))

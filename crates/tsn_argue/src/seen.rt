@@ -1,65 +1,84 @@
-//! Which frames stood in a list.
-ghost use Rattle.std.specs.Prelude.{◌≡◌, ◌<◌, ◌==◌, ◌&&◌, ◌++◌, [], ◌∷◌, List, MatchBool, Contains};
-ghost use Rattle.std.specs.List.{list_any};
-ghost use Rattle.tsn_model.specs.declared.Frame.{Frame as ModelFrame};
-ghost use Rattle.tsn_cert.specs.Cert.{first_frame};
-ghost use Rattle.tsn_argue.specs.Seen.{Tells};
+//! The frames of a list, each once.
+ghost use Rattle.std.specs.Prelude.{◌≡◌, ◌<◌, ◌++◌, [], ◌∷◌, length, MatchBool, IfOk, Contains};
 
-use tsn_model::Frame;
+use indexmap::IndexSet;
+use std::alloc::{AllocError, Global};
+use std::marker::Model;
+use tsn_model::{Frame, NoMemory};
 
-/// A mark for each stream whose frame of shift 0 stood in a list.
+/// How many frames a list has at most.
+const MOST: usize = 65_536;
+
+/// Different frames, at most `MOST`, in the order in which they were added. There is room for all of them from the beginning, so
+/// that no move asks for memory, and a look at one takes a time that doesn't grow with their number.
 #[derive(Drop)]
 pub struct Seen {
-    marks: [bool; 128],
+    frames: IndexSet<Frame>,
+}
+
+impl Model for Seen {
+    ghost use Rattle.std.specs.Prelude.{◌≤◌, ◌+◌, List};
+    ghost use Rattle.indexmap.specs.IndexSet.{index_set_len, spare};
+    ghost use Rattle.tsn_model.specs.declared.Frame.{Frame as ModelFrame};
+
+    ghost Value = { List ModelFrame };
+
+    ghost view = { λ seen. seen.frames.keys };
+
+    ghost invariant = { λ seen. 65_536 ≤ index_set_len seen.frames + spare seen.frames };
 }
 
 impl Seen {
-    /// No frame stood yet.
-    pub fn none() -> Seen
-        ensures { Tells result [] }
+    /// No frames.
+    pub fn none(alloc: Global) -> Result<Seen, AllocError>
+        ensures { IfOk result (λ seen. seen ≡ []) }
     {
-        Seen {
-            marks: [false; 128],
-        }
+        let frames = IndexSet::with_capacity(alloc, MOST)?;
+        Ok(Seen { frames })
     }
 
-    /// Whether the stream's frame of shift 0 stood in the list.
-    fn has_first(&self, stream: usize) -> bool
-        requires { stream < 128 }
-        ensures { (list : List ModelFrame) → Tells self.now list
-            → MatchBool result (Contains list (first_frame stream)) (Contains list (first_frame stream) → ⊥) }
+    /// Whether the frame is one of them.
+    pub fn has(&self, frame: Frame) -> bool
+        ensures { MatchBool result (Contains self.now frame) (Contains self.now frame → ⊥) }
     {
-        self.marks[stream]
+        self.frames.contains(&frame)
     }
 
-    /// Whether the frame stood in the list, which is told once more. A frame of shift 0 is found in a time that doesn't grow with
-    /// the list.
-    pub fn has(&self, list: &[Frame], frame: Frame) -> bool
-        requires told { Tells self.now list.now }
-        requires inside { frame.stream < 128 }
-        ensures { MatchBool result (Contains list.now frame) (Contains list.now frame → ⊥) }
+    /// Adds the frame behind the others, and tells whether it is none of them.
+    pub fn add(&mut self, frame: Frame) -> bool
+        requires { length self.old < 65_536 }
+        ensures { MatchBool result ((Contains self.old frame → ⊥) × (self.new ≡ self.old ++ frame ∷ [])) (Contains self.old frame) }
     {
-        if frame.shift == 0 {
-            self.has_first(frame.stream)
-        } else {
-            is_listed(list, frame)
+        if self.has(frame) {
+            return false;
         }
+        let Ok(_) = self.frames.insert(frame) else {
+            unreachable!();
+        };
+        true
     }
 
-    /// The frame stands at the end of the list.
-    pub fn add(&mut self, frame: Frame)
-        requires { frame.stream < 128 }
-        ensures { (list : List ModelFrame) → Tells self.old list → Tells self.new (list ++ frame ∷ []) }
+    /// Leaves no frames, in a time that grows with their number alone.
+    pub fn clear(&mut self)
+        ensures { self.new ≡ [] }
     {
-        if frame.shift == 0 {
-            self.marks[frame.stream] = true;
-        }
+        self.frames.truncate(0);
     }
 }
 
-/// Whether the list has the frame.
-fn is_listed(list: &[Frame], frame: Frame) -> bool
-    ensures { result ≡ list_any (λ other. other.stream == frame.stream && other.shift == frame.shift) list.now }
-{
-    list.iter().any(|other| other.stream == frame.stream && other.shift == frame.shift)
+/// The frames of a move that were seen: those behind its first, and, of a placing, some of these.
+#[derive(Drop)]
+pub struct Marks {
+    pub others: Seen,
+    pub some: Seen,
+}
+
+impl Marks {
+    /// No frames.
+    pub fn none(alloc: Global) -> Result<Marks, NoMemory> {
+        Ok(Marks {
+            others: Seen::none(alloc)?,
+            some: Seen::none(alloc)?,
+        })
+    }
 }

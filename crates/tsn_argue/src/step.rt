@@ -15,6 +15,7 @@ use crate::aim::{Aim, Stop};
 use crate::motion::{Shown, judge};
 use crate::news::News;
 use crate::observer::Observer;
+use crate::seen::Marks;
 use crate::view::View;
 use std::alloc::{AllocError, Global};
 use tsn_cert::{Clause, Fact, Move, Step};
@@ -82,6 +83,7 @@ fn make<L: Observer>(
     clauses: &[&Clause],
     number: usize,
     motion: &Move,
+    marks: &mut Marks,
     observer: &mut L,
 ) -> Result<(), Stop>
     requires sound { IsSound view.old }
@@ -93,7 +95,7 @@ fn make<L: Observer>(
     if view.crossed {
         return Err(Stop::Wrong(StepFault::Move(number, Wrong::Crossed)));
     }
-    let shown = match judge(view, clauses, motion) {
+    let shown = match judge(view, clauses, motion, marks) {
         Ok(shown) => shown,
         Err(wrong) => return Err(Stop::Wrong(StepFault::Move(number, wrong))),
     };
@@ -120,6 +122,7 @@ fn make_all<L: Observer>(
     view: &mut View<'_>,
     clauses: &[&Clause],
     moves: &[Move],
+    marks: &mut Marks,
     observer: &mut L,
 ) -> Result<(), Stop>
     requires sound { IsSound view.old }
@@ -129,7 +132,7 @@ fn make_all<L: Observer>(
         (told_moves view.old.timing.now (clauses_of clauses.now) (view_of view.old) (map move_of moves.now))) }
 {
     for (number, motion) in moves.iter().enumerate() {
-        make(view, clauses, number, motion, observer)?;
+        make(view, clauses, number, motion, marks, observer)?;
     }
     Ok(())
 }
@@ -139,6 +142,7 @@ fn show<L: Observer>(
     view: &mut View<'_>,
     clauses: &[&Clause],
     step: &Step,
+    marks: &mut Marks,
     observer: &mut L,
 ) -> Result<(), Stop>
     requires sound { IsSound view.old }
@@ -155,7 +159,7 @@ fn show<L: Observer>(
     judge_facts(view.timing, clause)?;
     observer.begin(view, step);
     suppose(view, clause)?;
-    make_all(view, clauses, step.moves.list(), observer)?;
+    make_all(view, clauses, step.moves.list(), marks, observer)?;
     if clause.is_empty() {
         return Ok(());
     }
@@ -215,6 +219,7 @@ impl<'a> Known<'a> {
         &mut self,
         aim: &Aim<'_>,
         step: &'a Step,
+        marks: &mut Marks,
         observer: &mut L,
     ) -> Result<(), Stop>
         requires ready { IsReady self.old }
@@ -223,7 +228,13 @@ impl<'a> Known<'a> {
         ensures told { OnOk result (L.heard observer.new ≡ with_told (L.heard observer.old)
             (told_step self.old.view.timing.now (known_of self.old) (step_of step.now))) }
     {
-        show(&mut self.view, self.clauses.as_slice(), step, observer)?;
+        show(
+            &mut self.view,
+            self.clauses.as_slice(),
+            step,
+            marks,
+            observer,
+        )?;
         observer.end(&self.view, step);
         self.keep_clause(&step.clause)?;
         if step.clause.list().len() <= 1 {
@@ -318,8 +329,9 @@ pub fn check_steps<L: Observer>(
         (told_of timing.now (goal_of aim.now) (steps_of steps.now))) }
 {
     let mut known = Known::first(alloc, timing, aim)?;
+    let mut marks = Marks::none(alloc)?;
     for (number, step) in steps.iter().enumerate() {
-        if let Err(stop) = known.take(aim, step, observer) {
+        if let Err(stop) = known.take(aim, step, &mut marks, observer) {
             return Err(stop.at(number));
         }
     }

@@ -95,10 +95,12 @@ impl<'a> View<'a> {
         requires there { stream < stream_count self.old.timing.now }
         ensures { OnOk result (Becomes self.old self.new (learned (view_of self.old) (from stream number))) }
     {
+        if number <= self.low.at(stream) {
+            return Ok(());
+        }
         let greatest = self.high.at(stream);
         self.crossed = or_above(self.crossed, number, greatest);
-        let least = number.max(self.low.at(stream));
-        self.low.set(stream, least)
+        self.low.set(stream, number)
     }
 
     #[tactic(auto, unfolding(tsn_model::specs::Argument::learned))]
@@ -108,10 +110,12 @@ impl<'a> View<'a> {
         requires there { stream < stream_count self.old.timing.now }
         ensures { OnOk result (Becomes self.old self.new (learned (view_of self.old) (until stream number))) }
     {
+        if number >= self.high.at(stream) {
+            return Ok(());
+        }
         let least = self.low.at(stream);
         self.crossed = or_above(self.crossed, least, number);
-        let greatest = number.min(self.high.at(stream));
-        self.high.set(stream, greatest)
+        self.high.set(stream, number)
     }
 
     #[tactic(auto, unfolding(tsn_model::specs::Argument::learned))]

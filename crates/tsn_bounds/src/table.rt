@@ -101,7 +101,8 @@ const NO_BODY: Body = Body {
     latest: 0,
 };
 
-const NO_VISIT: Visit = Visit {
+/// No frame.
+pub const NO_VISIT: Visit = Visit {
     stream: 0,
     shift: 0,
     start: 0,

@@ -4,7 +4,7 @@ use Rattle.std.proofs.lemmas.Int.{ints}
 use Rattle.std.proofs.lemmas.List.{get_or_default, length-map, ext_get_or}
 use Rattle.std.proofs.Math.ListN.{get_or-map}
 use Rattle.tsn_model.specs.declared.Decision.{Decision}
-use Rattle.tsn_model.specs.Network.{Network, Stream, IsWellFormed, stream_count, no_stream, stream_at, release_of}
+use Rattle.tsn_model.specs.Network.{Network, Stream, IsWellFormed, HasFewStreams, stream_count, no_stream, stream_at, release_of}
 use Rattle.tsn_model.specs.declared.Violation.{Violation}
 use Rattle.tsn_model.specs.Schedule.{offset_of, IsValid, AreApart, IsFirstViolation}
 use Rattle.tsn_model.proofs.Limits.{period-le}
@@ -55,12 +55,11 @@ module _ (network : Network) (path : List Decision) (lowest : LeastOffsets) (sol
         sum = omega (arith, ints, sum, release);
       }
 
-  pub short : IsWellFormed network → (i : ℕ) → i < stream_count network → length (chain_of lowest i) ≤ 128
-  short formed i below =
+  pub short : HasFewStreams network → (i : ℕ) → i < stream_count network → length (chain_of lowest i) ≤ 128
+  short few i below =
       let shows = solves.chains i (rw (length-releases network) below) in
       let shorter = shows.short in
       let long = length-releases network in
-      let few = formed.few_streams in
       omega arith
 
 -- streams that are done within their periods have small offsets

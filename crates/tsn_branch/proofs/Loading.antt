@@ -11,7 +11,7 @@ use Rattle.std.proofs.lemmas.Simd.{map-map}
 use Rattle.std.proofs.lemmas.List.Elements.{filter-append, filter_passes, All-head, All-tail, All-contains, All-map, All-more}
 use Rattle.std.proofs.lemmas.List.FromFn.{length-range_with_len}
 use Rattle.std.proofs.lemmas.List.Sums.{sum_by-append, sum_by-le}
-use Rattle.tsn_model.specs.Network.{Network, IsWellFormed, stream_count, hop_count, route_link}
+use Rattle.tsn_model.specs.Network.{Network, IsWellFormed, HasFewStreams, stream_count, hop_count, route_link}
 use Rattle.tsn_model.specs.Timing.{separation, arrival, hop_on, UsesLink, start_on}
 use Rattle.tsn_model.specs.Certificate.{least}
 use Rattle.tsn_branch.specs.Links.{users_of, shared_links, work_on, tail_on, head_by, busy_by, load_by, IsUnloaded}
@@ -152,11 +152,15 @@ module _ (network : Network) (formed : IsWellFormed network) (link : ℕ) where
   users_counted : All (λ i. i < stream_count network) (users_of network link)
   users_counted k d below = UsesLink-counted network (get_or (users_of network link) k d) link (users_use k d below)
 
-  pub users_few : length (users_of network link) ≤ 128
+  pub users_few : length (users_of network link) ≤ 2048
   unfolding users_of
   users_few =
       let few = formed.few_streams in
       omega (arith, few, length-filter-le (λ i. is_some (hop_on network i link)) (range_with_len 0 (stream_count network)), length-range_with_len 0 (stream_count network))
+
+  pub users_below : HasFewStreams network → length (users_of network link) ≤ 128
+  unfolding users_of
+  users_below few = omega (arith, few, length-filter-le (λ i. is_some (hop_on network i link)) (range_with_len 0 (stream_count network)), length-range_with_len 0 (stream_count network))
 
   pub start_on-le : (i : ℕ) → UsesLink network i link → start_on network i link ≤ 206336000
   start_on-le i uses =
@@ -173,7 +177,7 @@ module _ (network : Network) (formed : IsWellFormed network) (link : ℕ) where
       let ends = limits.arrival-le network formed i (UsesLink-counted network i link uses) in
       omega arith
 
-  pub work_on-le : work_on network link ≤ 157900800
+  pub work_on-le : work_on network link ≤ 2526412800
   unfolding work_on
   work_on-le =
       let each : All (λ i. separation network i link ≤ 1233600) (users_of network link) = λ k d below. keeps-le (get_or (users_of network link) k d) (users_use k d below) in
@@ -204,7 +208,7 @@ module _ (network : Network) (formed : IsWellFormed network) (link : ℕ) where
   tail_on-bounds some = tail-bounds (users_of network link) users_use some
 
   -- some of the link's streams don't occupy it for long
-  pub work-le : (streams : List ℕ) → All (λ i. UsesLink network i link) streams → length streams ≤ 128 → sum_by (λ i. separation network i link) streams ≤ 157900800
+  pub work-le : (streams : List ℕ) → All (λ i. UsesLink network i link) streams → length streams ≤ 2048 → sum_by (λ i. separation network i link) streams ≤ 2526412800
   work-le streams used few =
       let each : All (λ i. separation network i link ≤ 1233600) streams = λ k d below. keeps-le (get_or streams k d) (used k d below) in
       let whole = sum_by-le (λ i. separation network i link) 1233600 streams each in
@@ -268,9 +272,9 @@ module _ (network : Network) (link : ℕ) (found : SharedLink) (is : found ≡ s
 -- the bounds of a table's numbers
 pub record IsMeasured (network : Network) (table : LinkTable) : Type 0 where
   pub several : 2 ≤ length table.users.items
-  pub few : length table.users.items ≤ 128
+  pub few : length table.users.items ≤ 2048
   pub early : All (IsEarly (stream_count network)) table.users.items
-  pub short_work : table.work ≤ 157900800
+  pub short_work : table.work ≤ 2526412800
   pub low_tail : pos 0 ≤ℤ (table.tail +ℤ pos 230000000)
   pub high_tail : table.tail ≤ℤ pos 230000000
 

@@ -1,6 +1,6 @@
 //! The arcs of a path, and what they come to.
 ghost use Rattle.std.specs.Prelude.{◌≡◌, ◌↔◌, IsTrue, IfOk, IfSome, All, Contains, length, option_copied};
-ghost use Rattle.tsn_model.specs.Network.{Network};
+ghost use Rattle.tsn_model.specs.Network.{HasFewStreams, Network};
 ghost use Rattle.tsn_model.specs.Arcs as model;
 ghost use Rattle.tsn_conflict.specs.Kept.{AreConflictsOf};
 ghost use Rattle.tsn_diff.specs.Limits.{IsArcAmong};
@@ -33,6 +33,7 @@ fn is_on_conflict(conflicts: &Conflicts, decision: &Decision) -> bool
 
 /// The streams, with the release of each.
 pub fn net_of(alloc: Global, timing: &Timing) -> Result<Net, AllocError>
+    requires { HasFewStreams timing.now }
     ensures { IfOk result (λ net. net ≡ releases_of timing.now) }
 {
     let mut releases = Vec::with_capacity(alloc, timing.streams())?;

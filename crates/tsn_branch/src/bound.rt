@@ -8,6 +8,10 @@ use crate::tables::{Aim, Tables};
 use std::alloc::Global;
 use tsn_node::NoMemory;
 use tsn_node::outcome::Look;
+use tsn_timing::Timing;
+
+/// The most streams that are searched in the order of the file.
+pub const FEW_STREAMS: usize = 128;
 
 // How often a greater bound is sought, at most: more often than a network has links and streams.
 const ROUNDS: usize = 1_000_000;
@@ -26,6 +30,19 @@ pub fn lower_bound(alloc: Global, tables: Tables<'_>) -> Result<u64, NoMemory>
         bound = higher;
     }
     Ok(bound)
+}
+
+/// What no valid schedule's flowspan is below, in nanoseconds: the latest arrival of a stream that starts at its release.
+pub fn least_arrival(timing: &Timing) -> u64
+    ensures { IsLowerBound timing.now result }
+{
+    // The network is within its limits.
+    let _limits = timing.cycle();
+    let mut bound = 0u64;
+    for stream in 0..timing.streams() {
+        bound = bound.max(timing.release(stream) + timing.arrival(stream));
+    }
+    bound
 }
 
 // The bound with which the root is pruned at a target; 0 where it isn't.

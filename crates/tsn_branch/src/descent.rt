@@ -3,7 +3,7 @@ ghost use Rattle.std.specs.Prelude.{◌≡◌, ◌-◌, ◌≤◌, List, [], ◌
 ghost use Rattle.tsn_timing.specs.Solution.{IsSolved};
 ghost use Rattle.tsn_model.specs.declared.Side.TheVariants.{Left};
 ghost use Rattle.tsn_model.specs.declared.Triple.{Triple};
-ghost use Rattle.tsn_model.specs.Network.{Network};
+ghost use Rattle.tsn_model.specs.Network.{HasFewStreams, Network};
 ghost use Rattle.tsn_model.specs.Places.{pending};
 ghost use Rattle.tsn_model.specs.Arcs.{arcs_of};
 ghost use Rattle.tsn_model.specs.Certificate.{decided};
@@ -49,8 +49,9 @@ impl Model for Descent {
 }
 
 impl Descent {
-    /// At the root. The error says that there was no memory.
+    /// At the root, of at most 128 streams. The error says that there was no memory.
     pub fn root(alloc: Global, timing: &Timing) -> Result<Descent, NoMemory>
+        requires { HasFewStreams timing.now }
         ensures path { IfOk result (λ position. position.path ≡ []) }
         ensures stands { IfOk result (Stands timing.now) }
     {

@@ -1,7 +1,7 @@
 //! What the least offsets of a path, or a cycle of its arcs, come to.
 ghost use Rattle.std.specs.Prelude.{◌≡◌, ◌≤◌, ◌<◌, ℕ, List, All, Option, Some, IfOk, IfSome, IfNone, MatchOption, length, map, slice_get, option_copied};
 ghost use Rattle.tsn_model.specs.declared.Decision.{Decision};
-ghost use Rattle.tsn_model.specs.Network.{IsWellFormed, stream_count};
+ghost use Rattle.tsn_model.specs.Network.{IsWellFormed, HasFewStreams, stream_count};
 ghost use Rattle.tsn_model.specs.Schedule.{flowspan, AreApart};
 ghost use Rattle.tsn_model.specs.Arcs.{arcs_of};
 ghost use Rattle.tsn_conflict.specs.Raised.{OnlyRaisedOverlap};
@@ -223,6 +223,7 @@ fn judge_untied(
 // The least offsets of a path as its schedule, where no streams overlap.
 fn solved(alloc: Global, timing: &Timing, least: &Least, last: usize) -> Result<Look, NoMemory>
     requires formed { IsWellFormed timing.now }
+    requires few { HasFewStreams timing.now }
     requires some_path { (path : List Decision) × Solves (releases_of timing.now) (arcs_of timing.now path) least.now }
     requires fit { AllFit timing.now least.now.offsets }
     requires last { IsFirstLast timing.now least.now.offsets last }

@@ -30,7 +30,7 @@ mod tables;
 use crate::arcs::least_at;
 use crate::judge::judge;
 pub use arcs::fits;
-pub use bound::lower_bound;
+pub use bound::{FEW_STREAMS, least_arrival, lower_bound};
 pub use descent::Descent;
 pub use loads::Loads;
 pub use prepared::Prepared;

@@ -132,7 +132,7 @@ impl LinkTable {
     // Takes the next stream in, if it uses the link.
     fn take(&mut self, timing: &Timing, stream: usize) -> Result<(), AllocError>
         requires stream { stream < stream_count timing.now }
-        requires few { stream < 128 }
+        requires few { stream < 2048 }
         requires upto { link_in self.old ≡ link_with timing.now self.old.link (users_upto timing.now self.old.link stream) }
         requires short { self.old.work ≤ MAX_OCCUPANCY * stream }
         ensures upto { OnOk result (link_in self.new
@@ -150,7 +150,7 @@ impl LinkTable {
         requires stream { stream < stream_count timing.now }
         requires hop { hop_on timing.now stream self.old.link ≡ Some hop }
         requires some { (streams : List ℕ) × (link_in self.old ≡ link_with timing.now self.old.link streams) }
-        requires short { self.old.work ≤ MAX_OCCUPANCY * 128 }
+        requires short { self.old.work ≤ MAX_OCCUPANCY * 2048 }
         ensures put { OnOk result ((streams : List ℕ) → link_in self.old ≡ link_with timing.now self.old.link streams
             → link_in self.new ≡ link_with timing.now self.old.link (streams ++ stream ∷ [])) }
         ensures link { self.new.link ≡ self.old.link }

@@ -1,6 +1,7 @@
 //! What a search reads.
 ghost use Rattle.std.specs.Prelude.{◌≡◌, IfOk};
 ghost use Rattle.std.proofs.Props.{props};
+ghost use Rattle.tsn_model.specs.Network.{HasFewStreams};
 ghost use Rattle.tsn_conflict.specs.Kept.{AreConflictsOf};
 ghost use Rattle.tsn_branch.specs.Loads.{AreLoadsOf};
 ghost use Rattle.tsn_branch.specs.Rates.{rate-prop};
@@ -25,11 +26,12 @@ pub struct Prepared<'a> {
 }
 
 impl<'p> Prepared<'p> {
-    /// Those of a problem. The error says that there was no memory.
+    /// Those of a problem of at most 128 streams. The error says that there was no memory.
     //
     // Here and below a large value is dropped by a call, since the parts of one that goes out of scope are dropped in place, and
     // each proved at each such place.
     pub fn of(alloc: Global, problem: &'p Problem) -> Result<Prepared<'p>, NoMemory>
+        requires { HasFewStreams problem.now.network }
         ensures timing { IfOk result (λ prepared. prepared.timing.now ≡ problem.now.network) }
         ensures conflicts { IfOk result (λ prepared. AreConflictsOf prepared.timing.now prepared.conflicts) }
         ensures loads { IfOk result (λ prepared. AreLoadsOf prepared.timing.now prepared.loads) }

@@ -71,6 +71,9 @@ fn call_all<R: Print + AllocGlobal>(rt: &R, name: &str, network: Network) -> Res
 }
 
 fn call_over<R: Print + AllocGlobal>(rt: &R, name: &str, timing: &Timing) -> Result<(), NoMemory> {
+    if timing.streams() > 128 {
+        return Err(NoMemory);
+    }
     let shared = conflicts(rt.alloc(), timing)?;
     told::tell_network(rt, name);
     call_each(rt, timing, &shared)

@@ -36,7 +36,7 @@ frame_says =
     (next_follows 0 number _ number_says (λ i. next_follows 0 shift _ shift_says (λ s. over_follows 0 (record { stream = i; shift = s })))))
 
 frames_says : Says 2 frames_form
-frames_says = few_says 1 1 1024 frame_form frame_says
+frames_says = few_says 1 1 65536 frame_form frame_says
 
 orders_says : Says 2 orders_form
 orders_says = few_says 1 1 128 order_form order_says

@@ -42,11 +42,11 @@ frame_back_if false f is =
 pub frame_back : (f : Frame) → frame_in (frame_value f) ≡ Some f
 frame_back f = frame_back_if (f.shift == 0) f refl
 
-pub frames_back : (frames : List Frame) → 1 ≤ length frames → length frames ≤ 1024 → frames_of (frames_value frames) ≡ Some frames
+pub frames_back : (frames : List Frame) → 1 ≤ length frames → length frames ≤ 65536 → frames_of (frames_value frames) ≡ Some frames
 frames_back frames some most =
-    ap (λ o. option_and_then (λ (xs : List Frame). when (nat_le 1 (length xs) && nat_le (length xs) 1024) (Some xs)) o)
+    ap (λ o. option_and_then (λ (xs : List Frame). when (nat_le 1 (length xs) && nat_le (length xs) 65536) (Some xs)) o)
     (each-printed frame_in frame_value frame_back frames)
-    ∙ few_kept 1024 frames some most
+    ∙ few_kept 65536 frames some most
 
 -- ---- placings
 

@@ -32,7 +32,7 @@ frame_in = frame_form.said
 
 -- the most frames of a move
 abbrev pub max_frames : ℕ
-max_frames = 1024
+max_frames = 65536
 
 -- an array of 1 to 1,024 frames
 abbrev pub frames_form : Form (List Frame)

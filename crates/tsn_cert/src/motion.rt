@@ -11,7 +11,7 @@ use crate::order::{Order, Orders};
 use tsn_model::Frame;
 
 /// The most frames of a move.
-pub const MAX_FRAMES: usize = 1024;
+pub const MAX_FRAMES: usize = 65_536;
 
 /// Frames of a move.
 pub type Frames = Listed<Frame, MAX_FRAMES>;

@@ -21,7 +21,7 @@ module _ (network : Network) where
   unfolding turns_of burst_of stream_at
   upto-more i below = sum_by_more frames_in network.streams i no_stream below
 
-  pub upto-few : IsWellFormed network → (i : ℕ) → frames_upto i ≤ 1024
+  pub upto-few : IsWellFormed network → (i : ℕ) → frames_upto i ≤ 65536
   unfolding frame_count
   upto-few formed i =
       let part = sum_by-take-le frames_in network.streams i in

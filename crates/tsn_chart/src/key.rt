@@ -29,17 +29,17 @@ const LATEST: u64 = 6500;
 
 // How many lines the table has below its head.
 fn lines_of(streams: usize) -> usize
-    requires { streams ≤ 128 }
+    requires { streams ≤ 2048 }
     ensures some { 1 ≤ result }
-    ensures few { result ≤ 128 }
+    ensures few { result ≤ 2048 }
 {
     (streams / COLUMNS + streams % COLUMNS).max(1)
 }
 
 /// How high the table of the streams is.
 pub fn key_height(streams: usize) -> u64
-    requires { streams ≤ 128 }
-    ensures { result ≤ 100_000 }
+    requires { streams ≤ 2048 }
+    ensures { result ≤ 1_000_000 }
 {
     700 + lines_of(streams) as u64 * LINE
 }
@@ -101,7 +101,7 @@ fn write_stream(canvas: &mut Canvas, sheet: &Sheet<'_>, stream: usize)
 // Writes the numbers of a stream.
 fn write_numbers(canvas: &mut Canvas, sheet: &Sheet<'_>, stream: usize, x: u64, y: u64)
     requires stream { stream < stream_count sheet.now.timing.now }
-    requires x { x ≤ 1_000_000 }
+    requires x { x ≤ 20_000_000 }
 {
     let offset = sheet.offsets[stream];
     let arrival = offset.saturating_add(sheet.timing.arrival(stream));

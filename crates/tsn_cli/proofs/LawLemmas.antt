@@ -27,7 +27,7 @@ use Rattle.tsn_answer.specs.Answer.{Shows, whole_verdict, IsReadAgain, IsWhole}
 use Rattle.tsn_outcome.specs.Run.{Output}
 use Rattle.tsn_outcome.specs.Outcome.{IsOutcome}
 use Rattle.tsn_cli.specs.Check.{CheckAnswers, accepted}
-use Rattle.tsn_cli.specs.Plan.{ShowsIfAny, TellsPlan, TellsStop, finished_output}
+use Rattle.tsn_cli.specs.Plan.{ShowsIfAny, TellsMany, TellsPlan, TellsStop, finished_output}
 use Rattle.tsn_cli.specs.RunOutput.{HasForm}
 use Rattle.tsn_cli.specs.Laws.{IsText, PlanFilesAreOne, PlannedIsAccepted, PlannedIsFirst, ProvedIsAccepted, WritesProof, proved_verdict}
 use Rattle.tsn_cli.proofs.Accepting.{certificate_accepted}
@@ -89,15 +89,17 @@ module _ (network : Network) (effort : Effort) (wanted : Bool) (output : Output)
   told_none (stated, (None, (count, same, found, shows, inr cut))) done = absurd cut
   told_none (stated, (Some cert, (count, same, found, shows, inr cut))) done = absurd (omega (arith, rw cut.1 at done))
 
-  told_first : TellsPlan network effort wanted output ⊎ ((stop : Stop) × TellsStop network effort.limit stop output) → output.status ≡ 0
-      → TellsFirst network wanted output
+  told_first : TellsPlan network effort wanted output ⊎ ((stop : Stop) × TellsStop network effort.limit stop output) ⊎ TellsMany network effort output
+      → output.status ≡ 0 → TellsFirst network wanted output
   told_first (inl tells) done = told_plan tells done
-  told_first (inr (stop, (book, (known, stopped, of, is)))) done = absurd (omega (arith, rw is at done))
+  told_first (inr (inl (stop, (known, (count, so, of, is))))) done = absurd (omega (arith, rw is at done))
+  told_first (inr (inr many)) done = absurd (omega (arith, done, many.outcome.0))
 
-  told_that_none : TellsPlan network effort wanted output ⊎ ((stop : Stop) × TellsStop network effort.limit stop output) → output.status ≡ 4
-      → TellsNone network wanted output
+  told_that_none : TellsPlan network effort wanted output ⊎ ((stop : Stop) × TellsStop network effort.limit stop output) ⊎ TellsMany network effort output
+      → output.status ≡ 4 → TellsNone network wanted output
   told_that_none (inl tells) done = told_none tells done
-  told_that_none (inr (stop, (book, (known, stopped, of, is)))) done = absurd (omega (arith, rw is at done))
+  told_that_none (inr (inl (stop, (known, (count, so, of, is))))) done = absurd (omega (arith, rw is at done))
+  told_that_none (inr (inr many)) done = absurd (omega (arith, done, many.outcome.0))
 
 pub planned_first : PlannedIsFirst
 planned_first effort wanted file output (inl refused) =
@@ -168,7 +170,9 @@ pub planned : FirstFaultsRefute → RightPlansFit → CertifiedTreesFit → Plan
 planned refutes plans_fit trees_fit plan_read cert_read effort network_file plan_file cert_file output checked few (inl refused) done is_plan is_cert answers =
     absurd (grind (arith, rw refused.2.0 at done))
 planned refutes plans_fit trees_fit plan_read cert_read effort network_file plan_file cert_file output checked few
-    (inr (problem, states, inr (stop, (book, (known, stopped, same, is))))) done is_plan is_cert answers = absurd (grind (arith, rw is at done))
+    (inr (problem, states, inr (inl (stop, (known, (count, so, same, is)))))) done is_plan is_cert answers = absurd (grind (arith, rw is at done))
+planned refutes plans_fit trees_fit plan_read cert_read effort network_file plan_file cert_file output checked few
+    (inr (problem, states, inr (inr many))) done is_plan is_cert answers = absurd (grind (arith, done, many.outcome.0))
 planned refutes plans_fit trees_fit plan_read cert_read effort network_file plan_file cert_file output checked few (inr (problem, states, inl tells)) done is_plan
     is_cert answers =
     told refutes plans_fit trees_fit plan_read cert_read effort network_file plan_file cert_file output checked few answers problem states tells done is_plan is_cert

@@ -1,6 +1,6 @@
 -- What a run of `plan` prints tells what its search found.
-use Rattle.std.proofs.Common.{◌≡◌, ◌⊎◌, ℕ, Bool, true, false, IsTrue, inl, inr, List, [], ◌∷◌, ◌++◌, length, string_bytes, Option, None, Some, is_some, if◌then◌else◌, Result, Ok, Err, IfSome, MatchOption, refl, sym, ap, ◌∙◌, subst, arith}
-use Rattle.tsn_model.specs.Network.{Network}
+use Rattle.std.proofs.Common.{◌≡◌, ◌⊎◌, ◌<◌, ℕ, Bool, true, false, IsTrue, inl, inr, List, [], ◌∷◌, ◌++◌, length, string_bytes, Option, None, Some, is_some, if◌then◌else◌, Result, Ok, Err, IfSome, MatchOption, refl, sym, ap, ◌∙◌, subst, arith}
+use Rattle.tsn_model.specs.Network.{Network, HasFewStreams, stream_count}
 use Rattle.tsn_model.specs.Search.{kept_of}
 use Rattle.tsn_timing.specs.Problem.{NamedNetwork}
 use Rattle.tsn_device.specs.declared.device.ReadFault.{ReadFault}
@@ -17,13 +17,14 @@ use Rattle.tsn_answer.specs.declared.effort.Effort.{Effort}
 use Rattle.tsn_answer.specs.declared.found.Found.{Found}
 use Rattle.tsn_answer.specs.declared.found.Found.TheVariants as found
 use Rattle.tsn_answer.specs.Optimum.{IsFoundPlan}
-use Rattle.tsn_answer.specs.Answer.{HasNoneOpen, IsArgued, IsFinished, IsFound, IsFoundBy, IsStoppedWith, MayArgue, plan_kept}
+use Rattle.tsn_answer.specs.Answer.{HasNoneOpen, IsArgued, IsFinished, IsFound, IsFoundBy, MayArgue, plan_kept}
 use Rattle.tsn_outcome.specs.declared.stop.Stop.{Stop}
 use Rattle.tsn_outcome.specs.declared.outcome.Outcome.{Outcome}
 use Rattle.tsn_outcome.specs.declared.outcome.Outcome.TheVariants.{Stopped}
 use Rattle.tsn_outcome.specs.declared.outcome.Outcome.TheVariants as ends
 use Rattle.tsn_outcome.specs.declared.answer.Answer.{Answer}
-use Rattle.tsn_outcome.specs.Run.{Command, EndsOver, Output, RunsOver, SinkRun, SourceRun}
+use Rattle.tsn_words.specs.declared.options.Method.TheVariants.{FileOrder}
+use Rattle.tsn_outcome.specs.Run.{Command, EndsOver, IsLine, Output, RunsOver, SinkRun, SourceRun}
 use Rattle.tsn_outcome.specs.Said.{line_of, status_of, stop_of}
 use Rattle.tsn_outcome.specs.Outcome.{IsOutputOf, IsWrittenAs, line_taken, outcome_of}
 use Rattle.tsn_outcome.proofs.RunLemmas.{never_both, runs_over, some_of}
@@ -35,8 +36,8 @@ use Rattle.tsn_cli.proofs.InputLemmas.{answered, none_left}
 use Rattle.tsn_cli.specs.declared.run_output.RunOutput.{RunOutput}
 use Rattle.tsn_cli.specs.declared.run_output.Written.{Written}
 use Rattle.tsn_cli.specs.RunOutput.{ComesPrinted, IsCut, IsPrinted, Knows, cert_bytes, printed, written_bytes, written_in}
-use Rattle.tsn_cli.specs.Plan.{IsTreeOf, IsWanted, PlanAnswers, PlanStops, ShowsIfAny, TellsPlan, TellsStop, best_plan_text, finished_output, found_outcome, outcome_found, stop_for, text_found}
-use Rattle.tsn_cli.proofs.EndLemmas.{printed_is, some_along}
+use Rattle.tsn_cli.specs.Plan.{IsTreeOf, IsWanted, PlanAnswers, PlanStops, IsKnownThen, ShowsIfAny, TellsMany, TellsPlan, TellsStop, best_plan_text, finished_output, found_outcome, outcome_found, stop_for, text_found}
+use Rattle.tsn_cli.proofs.EndLemmas.{printed_is, refused_line, some_along}
 use Rattle.tsn_cli.proofs.PrintLemmas.{early, is_early}
 use Rattle.tsn_cli.proofs.TreeLemmas.{cert_is_there}
 
@@ -46,13 +47,13 @@ tree_if_any : (network : Network) (effort : Effort) (book : Progress) (cert : Op
     → ShowsIfAny network effort (plan_kept network (kept_of network book.history)) cert (length book.history)
 tree_if_any network effort book None finished is =
     let there = cert_is_there book finished.lawful finished.none_open in
-    (certificate.Tree there.0, (finished.shown there.0 there.1, tt, tt))
-tree_if_any network effort book (Some (certificate.Tree cert)) finished is = (finished.shown cert is, tt, tt)
+    (certificate.Tree there.0, (finished.shown there.0 there.1, tt, λ few. tt))
+tree_if_any network effort book (Some (certificate.Tree cert)) finished is = (finished.shown cert is, tt, λ few. tt)
 tree_if_any network effort book (Some (certificate.Argument argument)) finished is = absurd is
 
 -- the argument shows it, whether or not it is written
 argument_if_any : (network : Network) (effort : Effort) (plan : Plan) (argument : Argument) (wanted : Bool) (cert : Option Certificate)
-    → IsArgued network effort.limit plan argument → MayArgue effort.method effort.limit
+    → IsArgued network effort.limit plan argument → (HasFewStreams network → MayArgue effort.method effort.limit)
     → cert ≡ (if wanted then Some (certificate.Argument argument) else None)
     → ShowsIfAny network effort plan cert (length argument.steps) × (is_some cert ≡ wanted)
 argument_if_any network effort plan argument true cert argued may is =
@@ -76,6 +77,7 @@ pub none_open : (network : Network) (limit : ℕ) (left : Found) → IsFound net
 none_open network limit (found.Finished book) is = is.none_open
 none_open network limit (found.Argued plan argument) is = tt
 none_open network limit (found.Stopped book known) is = tt
+none_open network limit (found.GaveUp known count) is = tt
 
 -- a certificate is written only where it is wanted
 pub wanted_by : (wanted : Bool) (left : Found) (cert : Option Written) → IsWanted wanted left (written_in cert) → IsTrue (is_some cert) → IsTrue wanted
@@ -84,6 +86,7 @@ wanted_by wanted (found.Finished book) (Some cert) is some = subst IsTrue is.0 s
 wanted_by true (found.Argued plan argument) (Some cert) is some = refl
 wanted_by false (found.Argued plan argument) (Some cert) is some = cc
 wanted_by wanted (found.Stopped book known) (Some cert) is some = cc
+wanted_by wanted (found.GaveUp known count) (Some cert) is some = cc
 
 -- a search that was stopped has a status of its own
 pub plan_whole : (output : RunOutput (Option Written)) (shown : Output) (stop : Stop) → IsPrinted (Ok output) shown
@@ -129,16 +132,16 @@ module _ (effort : Effort) (wanted : Bool) (source : SourceRun) (output : RunOut
       (found, (written_in output.second, (count, is_wanted, is_found, shows, inr (subst (λ p. IsCut p (written_in output.second) shown) text cut))))
 
   -- what is printed of a search that was stopped tells of it
-  tells_stop : (network : Network) (book : Progress) (known : Known) → IsStoppedWith network effort.limit book known
-      → output.answer.outcome ≡ Stopped (stop_for known) (length book.history) → string_bytes output.first ≡ best_plan_text known.best
+  tells_stop : (network : Network) (known : Known) (count : ℕ) → IsKnownThen network effort.limit known count
+      → output.answer.outcome ≡ Stopped (stop_for known) count → string_bytes output.first ≡ best_plan_text known.best
       → written_in output.second ≡ None → TellsStop network effort.limit (stop_for known) (printed written_bytes (Ok output))
-  tells_stop network book known stopped outcome text none =
-      (book, (known, stopped, refl, printed_is written_bytes output (Stopped (stop_for known) (length book.history)) _ _ outcome text (ap cert_bytes none)))
+  tells_stop network known count so outcome text none =
+      (known, (count, so, refl, printed_is written_bytes output (Stopped (stop_for known) count) _ _ outcome text (ap cert_bytes none)))
 
   -- so what is printed of what was found does
-  tells : (network : Network) (left : Found) → IsFound network effort.limit left → IsFoundBy effort left → output.answer.outcome ≡ outcome_found left
+  tells : (network : Network) (left : Found) → IsFound network effort.limit left → (HasFewStreams network → IsFoundBy effort left) → output.answer.outcome ≡ outcome_found left
       → string_bytes output.first ≡ text_found left → IsWanted wanted left (written_in output.second) → (shown : Output) → IsPrinted (Ok output) shown
-      → TellsPlan network effort wanted shown ⊎ ((stop : Stop) × TellsStop network effort.limit stop shown)
+      → TellsPlan network effort wanted shown ⊎ ((stop : Stop) × TellsStop network effort.limit stop shown) ⊎ TellsMany network effort shown
   tells network (found.Finished book) is by outcome text cert shown prints =
       let own : IsFinished book.network effort.limit book = subst (λ (n : Network). IsFinished n effort.limit book) (sym is.same_network) is in
       inl (subst (λ (n : Network). TellsPlan n effort wanted shown) is.same_network
@@ -148,8 +151,14 @@ module _ (effort : Effort) (wanted : Bool) (source : SourceRun) (output : RunOut
       let shows = argument_if_any network effort plan argument wanted (written_in output.second) is by cert in
       inl (tells_plan network plan (length argument.steps) is.found shows.0 shows.1 outcome text shown prints)
   tells network (found.Stopped book known) is by outcome text cert shown (inl prints) =
-      inr (stop_for known, subst (λ o. TellsStop network effort.limit (stop_for known) o) (sym prints.0) (tells_stop network book known is outcome text cert))
+      inr (inl (stop_for known, subst (λ o. TellsStop network effort.limit (stop_for known) o) (sym prints.0)
+      (tells_stop network known (length book.history) (inl (book, is, refl)) outcome text cert)))
   tells network (found.Stopped book known) is by outcome text cert shown (inr cut) =
+      absurd (not_cut (string_bytes output.first) (written_in output.second) shown cert cut)
+  tells network (found.GaveUp known count) is by outcome text cert shown (inl prints) =
+      inr (inl (stop_for known, subst (λ o. TellsStop network effort.limit (stop_for known) o) (sym prints.0)
+      (tells_stop network known count (inr is) outcome text cert)))
+  tells network (found.GaveUp known count) is by outcome text cert shown (inr cut) =
       absurd (not_cut (string_bytes output.first) (written_in output.second) shown cert cut)
 
   no_stop_told : (P : Stop → Type 0) → stop_of output.answer.outcome ≡ None → IfSome (stop_of output.answer.outcome) P
@@ -164,13 +173,28 @@ module _ (effort : Effort) (wanted : Bool) (source : SourceRun) (output : RunOut
   stops network (found.Argued plan argument) is outcome text cert = no_stop_told _ (ap stop_of outcome ∙ found_none plan (length argument.steps))
   stops network (found.Stopped book known) is outcome text cert =
       subst (λ stop. IfSome stop (λ s. TellsStop network effort.limit s (printed written_bytes (Ok output)))) (sym (ap stop_of outcome))
-      (tells_stop network book known is outcome text cert)
+      (tells_stop network known (length book.history) (inl (book, is, refl)) outcome text cert)
+  stops network (found.GaveUp known count) is outcome text cert =
+      subst (λ stop. IfSome stop (λ s. TellsStop network effort.limit s (printed written_bytes (Ok output)))) (sym (ap stop_of outcome))
+      (tells_stop network known count (inr is) outcome text cert)
+
+  -- what is printed where there are too many streams for the search that was asked for
+  pub many_comes : (problem : NamedNetwork) → IsReadOver TakesNetwork source (Ok (of_network.Taken problem)) → effort.method ≡ FileOrder
+      → 128 < stream_count problem.network → output.answer.outcome ≡ ends.TooMany → string_bytes output.first ≡ [] → output.second ≡ None
+      → ComesPrinted (PlanAnswers effort wanted) (source ∷ []) (Ok output)
+  many_comes problem over order many outcome first none shown (inl prints) =
+      let second : written_bytes output.second ≡ [] = ap written_bytes none in
+      let line = refused_line written_bytes output ends.TooMany (line_of ends.TooMany) outcome first second (refl, refl) in
+      answered (λ o. shown) (PlanAnswers effort wanted) [] TakesNetwork source [] none_left (of_network.Taken problem) output over
+      (inr (problem, over.reads.2, inr (inr (record { order = order; many = many; outcome = subst (IsLine 3 (line_of ends.TooMany)) (sym prints.0) line }))))
+  many_comes problem over order many outcome first none shown (inr cut) =
+      absurd (not_cut (string_bytes output.first) (written_in output.second) shown (ap written_in none) cut)
 
   -- what a search found of the network of the file that was read is the run's output
   module _ (problem : NamedNetwork) (over : IsReadOver TakesNetwork source (Ok (of_network.Taken problem))) (left : Found)
       (is : IsFound problem.network effort.limit left) (outcome : output.answer.outcome ≡ outcome_found left)
       (text : string_bytes output.first ≡ text_found left) (cert : IsWanted wanted left (written_in output.second)) where
-    pub found_comes : IsFoundBy effort left → ComesPrinted (PlanAnswers effort wanted) (source ∷ []) (Ok output)
+    pub found_comes : (HasFewStreams problem.network → IsFoundBy effort left) → ComesPrinted (PlanAnswers effort wanted) (source ∷ []) (Ok output)
     found_comes by shown prints =
         answered (λ o. shown) (PlanAnswers effort wanted) [] TakesNetwork source [] none_left (of_network.Taken problem) output over
         (inr (problem, over.reads.2, tells problem.network left is by outcome text cert shown prints))

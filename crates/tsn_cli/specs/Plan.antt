@@ -4,9 +4,10 @@
 --     ShowsBy, ShowsIfAny, IsTreeOf                a certificate, if one is written
 --     outcome_found, text_found, IsWanted          what is answered of what a search has found, its plan, and its certificate
 --     TellsPlan, TellsStop                         an output that tells of a search of the network
+--     TellsMany                                    an output that refuses the search of many streams in the order of the file
 --     PlanAnswers, PlanStops                       the answer to the file read
-use Rattle.std.specs.Prelude.{◌≡◌, ◌⊎◌, ℕ, Bool, List, [], ◌∷◌, length, MatchOption, Option, Some, None, if◌then◌else◌, is_some, option_map}
-use Rattle.tsn_model.specs.Network.{Network}
+use Rattle.std.specs.Prelude.{◌≡◌, ◌⊎◌, ◌<◌, ℕ, Bool, List, [], ◌∷◌, length, MatchOption, Option, Some, None, if◌then◌else◌, is_some, option_map}
+use Rattle.tsn_model.specs.Network.{Network, HasFewStreams, stream_count}
 use Rattle.tsn_timing.specs.Solution.{Solution}
 use Rattle.tsn_net.specs.File.{States}
 use Rattle.tsn_timing.specs.Problem.{NamedNetwork}
@@ -22,13 +23,15 @@ use Rattle.tsn_answer.specs.declared.effort.Effort.{Effort}
 use Rattle.tsn_answer.specs.declared.found.Found.{Found}
 use Rattle.tsn_answer.specs.declared.found.Found.TheVariants as found
 use Rattle.tsn_answer.specs.Optimum.{IsFoundPlan}
-use Rattle.tsn_answer.specs.Answer.{IsCertificateBy, IsCertOf, IsReadAgain, IsStoppedWith, Shows, plan_kept}
+use Rattle.tsn_answer.specs.Answer.{IsCertificateBy, IsCertOf, IsReadAgain, HasGivenUp, IsStoppedWith, Shows, plan_kept}
 use Rattle.tsn_outcome.specs.declared.stop.Stop.{Stop}
 use Rattle.tsn_outcome.specs.declared.outcome.Outcome.{Outcome}
-use Rattle.tsn_outcome.specs.declared.outcome.Outcome.TheVariants.{Optimal, NoSchedule, Stopped}
+use Rattle.tsn_outcome.specs.declared.outcome.Outcome.TheVariants.{Optimal, NoSchedule, Stopped, TooMany}
 use Rattle.tsn_outcome.specs.Run.{Output, Command}
 use Rattle.tsn_outcome.specs.Said.{line_of, status_of}
 use Rattle.tsn_cli.specs.RunOutput.{cert_bytes, HasFormIfAny, IsCut}
+use Rattle.tsn_words.specs.declared.options.Method.TheVariants.{FileOrder}
+use Rattle.tsn_outcome.specs.Outcome.{IsOutcome}
 use Rattle.tsn_outcome.specs.Refusal.{RefusesNetwork}
 
 -- what is answered of a plan that was found, after so many nodes were settled, or by so many steps; of a plan that there is none, as of no schedule
@@ -59,9 +62,10 @@ stopped_output known count = record {
   texts = best_plan_text known.best ∷ [] ∷ line_of (Stopped (stop_for known) count) ∷ [];
 }
 
--- the certificate is of the kind that was asked for, is read again from its file, and shows what the plan says, by so many nodes or steps, at most the limit
+-- the certificate is read again from its file, and shows what the plan says, by so many nodes or steps, at most the limit; and where there are few streams it is
+-- of the kind that was asked for
 abbrev pub ShowsBy : Network → Effort → Plan → Certificate → ℕ → Type 0
-ShowsBy network effort plan certificate count = Shows network effort.limit plan certificate count × IsReadAgain certificate × IsCertificateBy effort certificate
+ShowsBy network effort plan certificate count = Shows network effort.limit plan certificate count × IsReadAgain certificate × (HasFewStreams network → IsCertificateBy effort certificate)
 
 -- it does; or, where none is written, there is one that does
 abbrev pub ShowsIfAny : Network → Effort → Plan → Option Certificate → ℕ → Type 0
@@ -78,17 +82,20 @@ abbrev pub outcome_found : Found → Outcome
 outcome_found (found.Finished book) = found_outcome (plan_kept book.network (kept_of book.network book.history)) (length book.history)
 outcome_found (found.Argued plan argument) = found_outcome plan (length argument.steps)
 outcome_found (found.Stopped book known) = Stopped (stop_for known) (length book.history)
+outcome_found (found.GaveUp known count) = Stopped (stop_for known) count
 
 abbrev pub text_found : Found → List ℕ
 text_found (found.Finished book) = plan_text (plan_kept book.network (kept_of book.network book.history))
 text_found (found.Argued plan argument) = plan_text plan
 text_found (found.Stopped book known) = best_plan_text known.best
+text_found (found.GaveUp known count) = best_plan_text known.best
 
 -- its certificate, where one is wanted, and else none
 abbrev pub IsWanted : Bool → Found → Option Certificate → Type 0
 IsWanted wanted (found.Finished book) certificate = (is_some certificate ≡ wanted) × MatchOption certificate (Unit {0}) (IsTreeOf book)
 IsWanted wanted (found.Argued plan argument) certificate = certificate ≡ (if wanted then Some (Argument argument) else None)
 IsWanted wanted (found.Stopped book known) certificate = certificate ≡ None
+IsWanted wanted (found.GaveUp known count) certificate = certificate ≡ None
 
 -- It tells of a search that has found what it was for: the first schedule of least flowspan, or that there is none, and a certificate that shows it
 -- exactly where one is wanted, and which has a form in a file; or as much of that as there is memory for.
@@ -98,18 +105,29 @@ TellsPlan network effort wanted output =
     × ShowsIfAny network effort plan certificate count
     × (((output ≡ finished_output plan certificate count) × HasFormIfAny certificate) ⊎ IsCut (plan_text plan) certificate output)))
 
--- it tells of a search that was stopped at its limit, where so much was known; the count is of the nodes that were settled
+-- what a search knew that was stopped at its limit, the count of the nodes that were settled; or one that gave up on many streams, the count of its conflicts
+abbrev pub IsKnownThen : Network → ℕ → Known → ℕ → Type 0
+IsKnownThen network limit known count =
+    ((book : Progress) × IsStoppedWith network limit book known × (count ≡ length book.history)) ⊎ HasGivenUp network limit known count
+
+-- it tells of a search that was stopped, where so much was known
 abbrev pub TellsStop : Network → ℕ → Stop → Output → Type 0
 TellsStop network limit stop output =
-    (book : Progress) × ((known : Known) × IsStoppedWith network limit book known × (stop ≡ stop_for known)
-    × (output ≡ stopped_output known (length book.history)))
+    (known : Known) × ((count : ℕ) × IsKnownThen network limit known count × (stop ≡ stop_for known) × (output ≡ stopped_output known count))
+
+-- it says that there are too many streams for a search in the order of the file, which was asked for
+pub record TellsMany (network : Network) (effort : Effort) (output : Output) : Type 0 where
+  pub order : effort.method ≡ FileOrder
+  pub many : 128 < stream_count network
+  pub outcome : IsOutcome TooMany output
 
 -- the answer to a network file, where so much is to be done and a certificate is wanted or not
 abbrev pub PlanAnswers : Effort → Bool → Command
 PlanAnswers effort wanted (file ∷ []) output =
     RefusesNetwork file output
     ⊎ ((problem : NamedNetwork) × States file problem
-    × (TellsPlan problem.network effort wanted output ⊎ ((stop : Stop) × TellsStop problem.network effort.limit stop output)))
+    × (TellsPlan problem.network effort wanted output ⊎ ((stop : Stop) × TellsStop problem.network effort.limit stop output)
+    ⊎ TellsMany problem.network effort output))
 PlanAnswers effort wanted _ output = ⊥
 
 -- the answer to a network file, where at most so many nodes are settled and the search is stopped, with so much known

@@ -1,5 +1,6 @@
 //! What a run of `plan` prints of what its search found.
 ghost use Rattle.std.specs.Prelude.{◌≡◌, ◌<◌, [], IfOk, string_bytes};
+ghost use Rattle.tsn_outcome.specs.declared.outcome.Outcome.TheVariants.{Stopped};
 ghost use Rattle.tsn_outcome.specs.Said.{status_of};
 ghost use Rattle.tsn_cli.specs.Plan.{IsWanted, best_plan_text, found_outcome, outcome_found, stop_for, text_found};
 ghost use Rattle.tsn_cli.specs.RunOutput.{written_in};
@@ -75,6 +76,7 @@ fn certificate_if(found: Found, wanted: bool) -> Result<Option<Written>, NoMemor
             mem::forget(book);
             drop(known);
         }
+        Found::GaveUp(known, _) => drop(known),
     }
     Ok(None)
 }
@@ -90,15 +92,20 @@ fn texts_of(alloc: Global, found: &Found) -> Result<(Answer, String), NoMemory>
             texts_for(alloc, &plan, book.count())
         }
         Found::Argued(plan, argument) => texts_for(alloc, plan, argument.steps.list().len()),
-        Found::Stopped(book, known) => {
-            let text = best_text(alloc, &known.best)?;
-            let outcome = Outcome::Stopped {
-                known: stop_for(known),
-                settled: book.count(),
-            };
-            Ok((Answer::of(alloc, outcome)?, text))
-        }
+        Found::Stopped(book, known) => stopped(alloc, known, book.count()),
+        Found::GaveUp(known, count) => stopped(alloc, known, *count),
     }
+}
+
+// What is said of a search that was stopped or gave up, and the text of the best plan that it knows.
+fn stopped(alloc: Global, known: &Known, settled: usize) -> Result<(Answer, String), NoMemory>
+    ensures outcome { IfOk result (λ texts. texts.0.outcome ≡ Stopped (stop_for known.now) settled) }
+    ensures plan { IfOk result (λ texts. string_bytes texts.1 ≡ best_plan_text known.now.best) }
+{
+    let text = best_text(alloc, &known.best)?;
+    let known = stop_for(known);
+    let answer = Answer::of(alloc, Outcome::Stopped { known, settled })?;
+    Ok((answer, text))
 }
 
 // What is said of a plan that is shown to be optimal, or that there is none, and its text.

@@ -1,6 +1,9 @@
 //! `plan`: finds the lexicographically least of the schedules of least flowspan.
-ghost use Rattle.std.specs.Prelude.{◌≡◌, ◌≤◌, ◌<◌, ◌-◌, ◌^◌, ◌↔◌, [], ◌∷◌, IfOk, IfSome, IsTrue, is_some};
+ghost use Rattle.std.specs.Prelude.{◌≡◌, ◌≤◌, ◌<◌, ◌-◌, ◌^◌, ◌↔◌, [], ◌∷◌, IfOk, IfSome, IsTrue, MatchBool, is_some};
+ghost use Rattle.tsn_model.specs.Network.{HasFewStreams, stream_count};
+ghost use Rattle.tsn_words.specs.declared.options.Method.TheVariants.{FileOrder};
 ghost use Rattle.tsn_outcome.specs.Run.{EndsOver, RunsOver, failed_in, sink_over, source_over, taken_in};
+ghost use Rattle.tsn_outcome.specs.declared.outcome.Outcome.TheVariants.{TooMany};
 ghost use Rattle.tsn_outcome.specs.Said.{line_of, status_of, stop_of};
 ghost use Rattle.tsn_outcome.specs.Outcome.{EndsAs, line_taken, outcome_of};
 ghost use Rattle.tsn_cli.specs.Plan.{PlanAnswers, PlanStops};
@@ -10,14 +13,16 @@ use std::alloc::Global;
 use std::sync::Wait;
 use std::thread::Threads;
 use tsn_answer::Effort;
-use tsn_branch::Supervisor;
+use tsn_branch::{FEW_STREAMS, Supervisor};
 use tsn_cli::{
     NetworkRead, PlanEnd, RunOutput, Written, alone, end_run, output_for, read_network, write_plan,
 };
 use tsn_device::device::{ReadFault, Sink, Source};
-use tsn_outcome::Answer;
+use tsn_model::NoMemory;
 use tsn_outcome::run::STOPPED;
-use tsn_worker::{Searched, search_by};
+use tsn_outcome::{Answer, Outcome};
+use tsn_timing::Problem;
+use tsn_worker::{Method, Searched, search_by};
 
 /// Does what `plan_answer` does, and writes the line. No command calls it: it is for users of the crate. The answer is the status, and what
 /// is known where the limit was met: the flowspan of the plan that was written, if any, and what no valid schedule's flowspan is below.
@@ -130,6 +135,11 @@ fn found<R: Threads + Wait + Sync, N: Source, S: Supervisor + Sync>(
 {
     match read_network(alloc, network)? {
         NetworkRead::Taken(problem) => {
+            if is_too_many(&problem, effort.method) {
+                let answer = too_many(alloc, network.name(), problem.timing().streams());
+                drop(problem);
+                return Ok(alone(alloc, answer?, None));
+            }
             let searched = search_by(rt, alloc, &problem, effort, supervisor);
             drop(problem);
             let Searched { found, word } = searched?;
@@ -138,4 +148,24 @@ fn found<R: Threads + Wait + Sync, N: Source, S: Supervisor + Sync>(
         }
         NetworkRead::Refused(answer) => Ok(alone(alloc, answer, None)),
     }
+}
+
+// Whether the search in the order of the file is asked for more streams than it takes.
+fn is_too_many(problem: &Problem, method: Method) -> bool
+    ensures { MatchBool result ((method ≡ FileOrder) × (128 < stream_count problem.now.network)) (method ≡ FileOrder → HasFewStreams problem.now.network) }
+{
+    match method {
+        Method::FileOrder => problem.timing().streams() > FEW_STREAMS,
+        Method::Auto | Method::Learn => false,
+    }
+}
+
+// That there are more streams than the search in the order of the file takes.
+fn too_many(alloc: Global, name: &str, streams: usize) -> Result<Answer, NoMemory>
+    ensures { IfOk result (λ answer. answer.outcome ≡ TooMany) }
+{
+    let reason = format!(in alloc;
+        "{name}: there are {streams} streams, and --search file takes at most {FEW_STREAMS}"
+    );
+    Answer::because(alloc, Outcome::TooMany, reason.ok())
 }

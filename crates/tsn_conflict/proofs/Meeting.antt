@@ -41,7 +41,7 @@ module _ (network : Network) (kept : Kept) (is : AreConflictsOf network kept) wh
   pub in_uses : (triple : Triple) → IsConflict network triple → IsInUses kept.uses triple
   in_uses triple conflict =
       let found = read triple conflict in
-      let few = is.formed.few_streams in
+      let few = is.few in
       let bounds = lag_bounds network triple is.formed conflict in
       grind arith
 

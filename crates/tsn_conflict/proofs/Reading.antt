@@ -4,7 +4,7 @@ use Rattle.std.specs.Prelude.{nat_lt}
 use Rattle.std.specs.List.{range_with_len}
 use Rattle.std.proofs.lemmas.Bool.{lt-ltb}
 use Rattle.std.proofs.lemmas.List.FromFn.{length-map-range_with_len, get_or-map-range_with_len, map-range_with_len_more}
-use Rattle.tsn_model.specs.Network.{Network, IsWellFormed, stream_count}
+use Rattle.tsn_model.specs.Network.{Network, IsWellFormed, HasFewStreams, stream_count}
 use Rattle.tsn_model.specs.Timing.{separation, start, hop_on, UsesLink, start_on}
 use Rattle.tsn_model.proofs.Routes.{separation-pos, hop_on_found, UsesLink-counted, UsesLink-exists}
 use Rattle.tsn_model.proofs.Limits.{separation-le, start-le}
@@ -112,5 +112,5 @@ Reads-used network uses i link formed same used =
             let same = (hop_on_found network i link hop on).2 in
             omega arith
 
-pub AreConflictsOf-from : (network : Network) (kept : Kept) → IsWellFormed network → kept.uses ≡ uses_of network → kept.triples ≡ conflicts_of network → AreConflictsOf network kept
-AreConflictsOf-from network kept formed uses triples = record { formed = formed; streams = ap length uses ∙ length-uses_of network; uses = uses; triples = triples }
+pub AreConflictsOf-from : (network : Network) (kept : Kept) → IsWellFormed network → HasFewStreams network → kept.uses ≡ uses_of network → kept.triples ≡ conflicts_of network → AreConflictsOf network kept
+AreConflictsOf-from network kept formed few uses triples = record { formed = formed; few = few; streams = ap length uses ∙ length-uses_of network; uses = uses; triples = triples }

@@ -5,7 +5,7 @@ use Rattle.std.specs.Prelude.{◌≡◌, ℕ, List, [], map, length, slice_index
 use Rattle.std.specs.List.{range_with_len}
 use Rattle.std.specs.Option.{option_map_or}
 use Rattle.tsn_model.specs.declared.Triple.{Triple}
-use Rattle.tsn_model.specs.Network.{Network, IsWellFormed, stream_count}
+use Rattle.tsn_model.specs.Network.{Network, IsWellFormed, HasFewStreams, stream_count}
 use Rattle.tsn_model.specs.Timing.{separation, start, hop_on}
 use Rattle.tsn_model.specs.Arcs.{conflicts_of}
 use Rattle.tsn_conflict.specs.declared.uses.Use.{Use}
@@ -28,9 +28,10 @@ pub record Kept : Type 0 where
 abbrev pub use_in : List (List Use) → ℕ → ℕ → Use
 use_in uses i link = slice_index_or (slice_index_or uses i []) link (record { start = 0; separation = 0 })
 
--- the network is within its limits, and this is what is kept of it
+-- the network is within its limits and has few streams, and this is what is kept of it
 pub record AreConflictsOf (network : Network) (kept : Kept) : Type 0 where
   pub formed : IsWellFormed network
+  pub few : HasFewStreams network
   pub streams : length kept.uses ≡ stream_count network
   pub uses : kept.uses ≡ uses_of network
   pub triples : kept.triples ≡ conflicts_of network

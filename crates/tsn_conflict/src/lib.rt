@@ -2,6 +2,7 @@
 #![tactic(auto)]
 
 ghost use Rattle.std.specs.Prelude.{IfOk};
+ghost use Rattle.tsn_model.specs.Network.{HasFewStreams};
 ghost use Rattle.tsn_conflict.specs.Kept.{AreConflictsOf};
 
 mod lags;
@@ -21,8 +22,9 @@ use std::alloc::Global;
 pub use tsn_model::{Arc, NoMemory, Side, Triple};
 use tsn_timing::Timing;
 
-/// The conflicts of a network. The error says that there was no memory.
+/// The conflicts of a network of at most 128 streams. The error says that there was no memory.
 pub fn conflicts(alloc: Global, timing: &Timing) -> Result<Conflicts, NoMemory>
+    requires { HasFewStreams timing.now }
     ensures { IfOk result (AreConflictsOf timing.now) }
 {
     // The network is within its limits.

@@ -157,11 +157,11 @@ module _ (network : Network) where
       let sum : frames_below network (n + 1) ≡ sum_by frames_in (take (n + 1) network.streams) = omega arith in
       subst (λ k. frames_below network k ≡ sum_by frames_in (take k network.streams)) one sum
 
-  pub frames_few : IsWellFormed network → frames_of network ≤ 1024
+  pub frames_few : IsWellFormed network → frames_of network ≤ 65536
   unfolding frame_count
   frames_few formed = grind (arith, below_is, sum_by-take-le)
 
-  pub shifts-few : IsWellFormed network → (i : ℕ) → i < stream_count network → frames_below network (i + 1) ≤ 1024
+  pub shifts-few : IsWellFormed network → (i : ℕ) → i < stream_count network → frames_below network (i + 1) ≤ 65536
   shifts-few formed i counted = grind (arith, frames_few, below-le)
 
   visits-few-below : (bound : ℕ) → ((j : ℕ) → j < stream_count network → hop_count network j ≤ bound) → (i : ℕ) → i ≤ stream_count network
@@ -181,7 +181,7 @@ module _ (network : Network) where
       ap (λ n. bound * n) below ∙ mul-add bound (frames_below network i) (length (shifts network i)) in
       subst (λ n. visits_below network n ≤ bound * frames_below network n) one (omega arith)
 
-  pub visits-few : IsWellFormed network → (i : ℕ) → i ≤ stream_count network → visits_below network i ≤ 65536
+  pub visits-few : IsWellFormed network → (i : ℕ) → i ≤ stream_count network → visits_below network i ≤ 4194304
   visits-few formed i order =
       let below = visits-few-below 64 (hops-le network formed) i order in
       let frames = below-le i (stream_count network) order in
@@ -189,14 +189,14 @@ module _ (network : Network) where
       omega arith
 
   pub visits-fit : IsWellFormed network → (i : ℕ) → i < stream_count network
-      → visits_below network i + hop_count network i * length (shifts network i) ≤ 65536
+      → visits_below network i + hop_count network i * length (shifts network i) ≤ 4194304
   visits-fit formed i counted =
       let more = visits-more i in
       let few = visits-few formed (i + 1) (omega arith) in
       omega arith
 
   pub visits-fit-hop : IsWellFormed network → (i hop : ℕ) → i < stream_count network → hop ≤ hop_count network i
-      → visits_below network i + hop * length (shifts network i) ≤ 65536
+      → visits_below network i + hop * length (shifts network i) ≤ 4194304
   visits-fit-hop formed i hop counted inside =
       let whole = visits-fit formed i counted in
       let product : hop * length (shifts network i) ≤ hop_count network i * length (shifts network i) = mul-le-mul inside (omega arith) in
@@ -286,7 +286,7 @@ module _ (network : Network) where
   firsts_all n firsts first whole are = record { count = let count = are.count in omega arith; each = λ i within. are.each i (omega arith) }
 
   -- and few of them
-  pub cells-few : IsWellFormed network → (cycles : ℕ) → cycles ≤ 16 → cycles * frames_of network ≤ 16384
+  pub cells-few : IsWellFormed network → (cycles : ℕ) → cycles ≤ 16 → cycles * frames_of network ≤ 1048576
   cells-few formed cycles few = grind (arith, frames_few, mul-le-mul)
 
   -- ---- the place of a shift, as it is searched for
@@ -307,8 +307,8 @@ module _ (network : Network) where
   pub record CellNumbers (cycle first place frames : ℕ) : Type 0 where
     pub all : frames ≡ frames_of network
     pub inside : first + place < frames
-    pub few : frames ≤ 1024
-    pub before : cycle * frames ≤ 16384
+    pub few : frames ≤ 65536
+    pub before : cycle * frames ≤ 1048576
     pub here : cycle * frames + frames ≤ (cycle + 1) * frames_of network
 
   pub cell_numbers : IsWellFormed network → (firsts : List ℕ) → AreFirsts network firsts → (cycle i shift place streams : ℕ) → cycle < 16

@@ -83,7 +83,7 @@ setting_right setting formed valid few short names keeps = record {
 }
 
 -- there are no more lists than a network has links
-pub lists_few : (network : Network) → IsWellFormed network → (gates : List LinkGates) → HasLists network gates → length gates ≤ 1024
+pub lists_few : (network : Network) → IsWellFormed network → (gates : List LinkGates) → HasLists network gates → length gates ≤ 4096
 lists_few network formed gates lists =
     let links = map (λ (item : LinkGates). item.link) gates in
     let exist = All-map (λ link. link < length network.links) (λ (item : LinkGates). item.link) gates lists.links in

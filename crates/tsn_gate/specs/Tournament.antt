@@ -5,7 +5,7 @@ use Rattle.tsn_gate.specs.Ports.{port_time, port_in}
 
 -- how many ports there are at most: a network has no more links
 abbrev pub most_ports : ℕ
-most_ports = 1024
+most_ports = 4096
 
 -- what a leaf without a port holds
 abbrev pub never : ℕ

@@ -41,7 +41,7 @@ pub const MAX_START: u64 = 64 * MAX_HOP_DELAY;
 pub const MAX_SPAN: u64 = 230_000_000;
 
 /// The most frames that all streams together send in a cycle.
-pub const MAX_FRAMES: u64 = 1024;
+pub const MAX_FRAMES: u64 = 65_536;
 
 /// The longest that all frames of a cycle together occupy a link.
 pub const MAX_WORK: u64 = MAX_FRAMES * MAX_OCCUPANCY;

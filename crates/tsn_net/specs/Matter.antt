@@ -83,9 +83,9 @@ most_at key.Proc = 1000000
 most_at key.Prop = 1000000
 most_at key.Octets = 1522
 most_at key.Frames = 16
-most_at key.Node = 256
-most_at key.Link = 512
-most_at key.Stream = 128
+most_at key.Node = 1024
+most_at key.Link = 2048
+most_at key.Stream = 2048
 most_at key.Route = 65
 most_at key.Routes = 32
 most_at _ = 1000000000
@@ -225,7 +225,7 @@ IsMatter d p (matter.OutOfRange k number) = IsOfTable (table_at p) (value_at d p
 IsMatter d p (matter.TooMany k count) = (p ≡ Top) × KeepsLimits (table_at p) (value_at d p) × (crowded_key d ≡ Some k) × (count ≡ count_at k d)
 IsMatter d p (matter.TooManyFrames count) =
     (p ≡ Top) × KeepsLimits (table_at p) (value_at d p) × (crowded_key d ≡ None) × (count ≡ sum_by (frames_of (number_at key.Cycle d.top)) d.streams)
-    × (1024 < count)
+    × (65536 < count)
 IsMatter d p (matter.NoName k text) = IsOfTable (table_at p) (value_at d p) (matter.NoName k text)
 IsMatter d p (matter.RouteCount count) = IsOfTable (table_at p) (value_at d p) (matter.RouteCount count)
 IsMatter d p (matter.LongRoute count) = IsOfTable (table_at p) (value_at d p) (matter.LongRoute count)

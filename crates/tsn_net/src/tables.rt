@@ -82,17 +82,17 @@ impl<'a> Document<'a> {
         if let Some(matter) = key_limit(Table::Top, self.top) {
             return Some(matter);
         }
-        if self.nodes.len() > 256 {
+        if self.nodes.len() > 1024 {
             return Some(Matter::TooMany(Key::Node, self.nodes.len()));
         }
-        if self.cables.len() > 512 {
+        if self.cables.len() > 2048 {
             return Some(Matter::TooMany(Key::Link, self.cables.len()));
         }
-        if self.streams.len() > 128 {
+        if self.streams.len() > 2048 {
             return Some(Matter::TooMany(Key::Stream, self.streams.len()));
         }
         let frames = frames_in(number_at(self.top, Key::Cycle), self.streams);
-        if frames > 1024 {
+        if frames > 65_536 {
             return Some(Matter::TooManyFrames(frames));
         }
         None
@@ -304,7 +304,7 @@ fn frames_of(cycle: u64, stream: &Value) -> u64
 // How many frames all streams send in a cycle.
 fn frames_in(cycle: u64, streams: &[Value]) -> u64
     requires short { cycle ≤ 1_000_000_000 }
-    requires few { length streams.now ≤ 128 }
+    requires few { length streams.now ≤ 2048 }
     ensures { result ≡ sum_by (frames_of cycle) (map view streams.now) }
 {
     let mut frames = 0;

@@ -116,7 +116,7 @@ impl fmt::Display for Between<'_> {
     }
 }
 
-const MOST_FRAMES: &str = ", and may send at most 1024";
+const MOST_FRAMES: &str = ", and may send at most 65536";
 
 const NAMES: &str = "the number of names in route";
 

@@ -17,7 +17,7 @@ use Rattle.tsn_outcome.specs.declared.stop.Stop.{Stop}
 use Rattle.tsn_outcome.specs.declared.outcome.FileKind.{FileKind}
 use Rattle.tsn_outcome.specs.declared.outcome.FileKind.TheVariants as kind
 use Rattle.tsn_outcome.specs.declared.outcome.Outcome.{Outcome}
-use Rattle.tsn_outcome.specs.declared.outcome.Outcome.TheVariants.{Taken, Valid, NotValid, Optimal, NoSchedule, Stopped, Proved, Undercut, AcceptedOptimal, AcceptedFirst, AcceptedNone, RefusedNetwork, RefusedFile, RefusedPlan, RefusedCert, TooLong, NoMemory, Failed}
+use Rattle.tsn_outcome.specs.declared.outcome.Outcome.TheVariants.{Taken, Valid, NotValid, Optimal, NoSchedule, Stopped, Proved, Undercut, AcceptedOptimal, AcceptedFirst, AcceptedNone, RefusedNetwork, RefusedFile, RefusedPlan, RefusedCert, TooLong, TooMany, NoMemory, Failed}
 use Rattle.tsn_outcome.specs.Stop.{span_or}
 
 abbrev pub status_of : Outcome → ℕ
@@ -37,6 +37,7 @@ status_of (RefusedFile of_kind fault) = 3
 status_of (RefusedPlan fault) = 6
 status_of (RefusedCert fault) = 6
 status_of TooLong = 3
+status_of TooMany = 3
 status_of NoMemory = 7
 status_of Failed = 8
 
@@ -102,6 +103,7 @@ said (RefusedFile of_kind fault) = codes "refused " ++ kind_text of_kind ++ code
 said (RefusedPlan fault) = codes "plan refused K" ++ decimal (number_of fault) ++ node_behind (codes " ") (node_of fault)
 said (RefusedCert fault) = codes "certificate refused K" ++ decimal (number_of fault) ++ node_behind (codes " ") (node_of fault)
 said TooLong = codes "too long"
+said TooMany = codes "too many streams"
 said NoMemory = codes "no memory"
 said Failed = []
 

@@ -88,6 +88,8 @@ pub enum Outcome {
     RefusedCert(CheckFault),
     /// A file is too long.
     TooLong,
+    /// There are more streams than the search that was asked for takes.
+    TooMany,
     /// A growth was refused.
     NoMemory,
     /// A device failed, of which nothing is said on standard output.
@@ -107,7 +109,10 @@ impl Outcome {
             | Outcome::AcceptedOptimal { .. }
             | Outcome::AcceptedFirst { .. }
             | Outcome::AcceptedNone => DONE,
-            Outcome::RefusedNetwork(_) | Outcome::RefusedFile(..) | Outcome::TooLong => REFUSED,
+            Outcome::RefusedNetwork(_)
+            | Outcome::RefusedFile(..)
+            | Outcome::TooLong
+            | Outcome::TooMany => REFUSED,
             Outcome::NoSchedule { .. } => NO_SCHEDULE,
             Outcome::Stopped { .. } => STOPPED,
             Outcome::NotValid(_)
@@ -259,6 +264,7 @@ impl fmt::Display for Outcome {
                 write!(f, "certificate refused K{}{place}", fault.number())
             }
             Outcome::TooLong => write!(f, "too long"),
+            Outcome::TooMany => write!(f, "too many streams"),
             Outcome::NoMemory => write!(f, "no memory"),
         }
     }

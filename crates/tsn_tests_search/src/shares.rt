@@ -148,6 +148,7 @@ fn look_at<R: Abort + AllocGlobal>(
     ensures proof { HasProof timing.now node.now (outcome_of result) }
     ensures found { IsLook timing.now node.now target (option_copied best.entry) (outcome_of result) }
 {
+    assert!(rt; timing.streams() <= 128);
     let shared = conflicts(rt.alloc(), timing).expect(rt, "memory");
     assert!(rt; fits(&shared, node));
     let found = look(rt.alloc(), timing, &shared, node, target, best).expect(rt, "memory");

@@ -67,7 +67,7 @@ impl Problem {
         &self.timing
     }
 
-    /// How many nodes there are, at most 256. Each has a name.
+    /// How many nodes there are, at most 1,024. Each has a name.
     pub fn nodes(&self) -> usize
         ensures count { result ≡ length self.now.network.procs }
         ensures named { result ≡ length self.now.node_names }
@@ -83,7 +83,7 @@ impl Problem {
         self.nodes[node].as_str()
     }
 
-    /// How many streams there are, 1 to 128. Each has a name.
+    /// How many streams there are, 1 to 2,048. Each has a name.
     pub fn streams(&self) -> usize
         ensures count { result ≡ stream_count self.now.network }
         ensures named { result ≡ length self.now.stream_names }

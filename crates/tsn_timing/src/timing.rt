@@ -106,10 +106,10 @@ impl Timing {
         self.network.slack()
     }
 
-    /// How many directed links there are, at most 1024.
+    /// How many directed links there are, at most 4,096.
     pub fn links(&self) -> usize
         ensures value { result ≡ length self.now.links }
-        ensures few { result ≤ 1024 }
+        ensures few { result ≤ 4_096 }
     {
         self.network.links()
     }
@@ -122,11 +122,11 @@ impl Timing {
         self.network.link(link)
     }
 
-    /// How many streams there are, 1 to 128.
+    /// How many streams there are, 1 to 2,048.
     pub fn streams(&self) -> usize
         ensures value { result ≡ stream_count self.now }
         ensures some { 1 ≤ result }
-        ensures few { result ≤ 128 }
+        ensures few { result ≤ 2_048 }
     {
         self.network.streams()
     }

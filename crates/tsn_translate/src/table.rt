@@ -3,9 +3,12 @@ ghost use Rattle.std.specs.Prelude.{◌<◌};
 ghost use Rattle.tsn_model.specs.Network.{stream_count};
 
 use std::alloc::{AllocError, Global};
-use tsn_bounds::number::{NONE, at, index, index_at, less, push, put, put_index, signed, sum};
-use tsn_bounds::table::{Block, Body, Conflict, Pair, Shared, Stays, Table, Visit};
+use tsn_bounds::number::{
+    NONE, at, index, index_at, less, next, push, put, put_index, signed, sum,
+};
+use tsn_bounds::table::{Block, Body, Conflict, NO_VISIT, Pair, Shared, Stays, Table, Visit};
 use tsn_timing::Timing;
+use tsn_timing::users::User;
 
 /// The numbers of a network, as far as they matter for schedules of at most this flowspan. The error says that there was no memory.
 pub fn table_of(alloc: Global, timing: &Timing, most: i64) -> Result<Table, AllocError> {
@@ -60,33 +63,45 @@ fn note_links(
     places: &mut [u32],
 ) -> Result<(), AllocError> {
     for link in 0..timing.links() {
-        let common = common_period(timing, link);
-        let mut visits = Vec::new(alloc);
-        let mut streams: usize = 0;
-        for stream in 0..timing.streams() {
-            if let Some(first) = first_on(timing, stream, link) {
-                streams = streams.wrapping_add(1);
-                note_frames(&mut visits, timing, first, common)?;
-            }
-        }
-        if streams > 1 && visits.len() > 2 {
-            put_index(places, link, index(table.links.len()));
-            let shared = Shared {
-                number: link,
-                visits,
-            };
-            push(&mut table.links, shared)?;
+        let on = timing.users(link);
+        if on.len() > 1 {
+            note_link(table, alloc, timing, link, on, places)?;
         }
     }
     Ok(())
 }
 
+// A link that several streams use, where they send three frames or more on it.
+fn note_link(
+    table: &mut Table,
+    alloc: Global,
+    timing: &Timing,
+    link: usize,
+    on: &[User],
+    places: &mut [u32],
+) -> Result<(), AllocError> {
+    let common = common_period(timing, on);
+    let mut visits = Vec::new(alloc);
+    for user in on {
+        note_frames(&mut visits, timing, first_of(timing, *user), common)?;
+    }
+    if visits.len() > 2 {
+        put_index(places, link, index(table.links.len()));
+        let shared = Shared {
+            number: link,
+            visits,
+        };
+        push(&mut table.links, shared)?;
+    }
+    Ok(())
+}
+
 // After how long all frames of a link come again.
-fn common_period(timing: &Timing, link: usize) -> i64 {
+fn common_period(timing: &Timing, on: &[User]) -> i64 {
     let mut common = 1i64;
-    for stream in 0..timing.streams() {
-        if timing.hop_on(stream, link).is_some() {
-            common = common_multiple(common, signed(timing.period(stream)));
+    for user in on {
+        if user.stream < timing.streams() {
+            common = common_multiple(common, signed(timing.period(user.stream)));
         }
     }
     common
@@ -112,21 +127,18 @@ fn common_divisor(one: i64, other: i64) -> i64 {
     greater
 }
 
-// The first frame of the stream on the link, if it uses it.
-fn first_on(timing: &Timing, stream: usize, link: usize) -> Option<Visit> {
-    if stream >= timing.streams() {
-        return None;
+// The first frame of a stream at a hop.
+fn first_of(timing: &Timing, user: User) -> Visit {
+    let User { stream, hop } = user;
+    if stream >= timing.streams() || hop >= timing.hops(stream) {
+        return NO_VISIT;
     }
-    let hop = timing.hop_on(stream, link)?;
-    if hop >= timing.hops(stream) {
-        return None;
-    }
-    Some(Visit {
+    Visit {
         stream,
         shift: 0,
         start: signed(timing.start(stream, hop)),
         work: signed(timing.separation(stream, hop)),
-    })
+    }
 }
 
 // The frames of a stream on a link that are sent before an instant, were the offset 0; by the first one.
@@ -181,6 +193,14 @@ struct Meeting {
     right: Visit,
 }
 
+// A stream on a link of another one, of a lesser number, with the hops of both.
+#[derive(Clone, Copy)]
+struct Rivalry {
+    right: usize,
+    left_hop: usize,
+    right_hop: usize,
+}
+
 // The pairs of a stream with those of greater numbers.
 fn note_pairs(
     table: &mut Table,
@@ -188,14 +208,58 @@ fn note_pairs(
     timing: &Timing,
     left: usize,
 ) -> Result<(), AllocError> {
+    let mut rivalries = Vec::new(alloc);
+    note_rivalries(&mut rivalries, timing, left)?;
+    rivalries.sort_unstable_by_key(|it: &Rivalry| (it.right, it.left_hop));
     let mut conflicts = Vec::new(alloc);
     let mut lags = Vec::new(alloc);
-    for right in left.wrapping_add(1)..timing.streams() {
+    let mut from: usize = 0;
+    for place in 0..rivalries.len() {
+        let behind = next(place);
+        if behind < rivalries.len() && rivalries[behind].right == rivalries[place].right {
+            continue;
+        }
+        let right = rivalries[place].right;
         conflicts.clear();
         lags.clear();
-        collect(&mut conflicts, &mut lags, table, timing, left, right)?;
+        let both = some_of(&rivalries, from, behind);
+        collect(&mut conflicts, &mut lags, table, timing, left, right, both)?;
         conflicts.sort_unstable_by_key(|conflict: &Conflict| conflict.right_first.wrapping_neg());
         note_pair(table, left, right, &conflicts)?;
+        from = behind;
+    }
+    Ok(())
+}
+
+// Those from one place up to another one.
+fn some_of(rivalries: &[Rivalry], from: usize, to: usize) -> &[Rivalry] {
+    if from <= to && to <= rivalries.len() {
+        &rivalries[from..to]
+    } else {
+        &[]
+    }
+}
+
+// Who of greater number uses a stream's links.
+fn note_rivalries(
+    rivalries: &mut Vec<Rivalry>,
+    timing: &Timing,
+    left: usize,
+) -> Result<(), AllocError> {
+    if left >= timing.streams() {
+        return Ok(());
+    }
+    for left_hop in 0..timing.hops(left) {
+        for user in timing.users(timing.route_link(left, left_hop)) {
+            if user.stream > left {
+                let rivalry = Rivalry {
+                    right: user.stream,
+                    left_hop,
+                    right_hop: user.hop,
+                };
+                push(rivalries, rivalry)?;
+            }
+        }
     }
     Ok(())
 }
@@ -208,29 +272,41 @@ fn collect(
     timing: &Timing,
     left: usize,
     right: usize,
+    both: &[Rivalry],
 ) -> Result<(), AllocError> {
     if left >= timing.streams() || right >= timing.streams() {
         return Ok(());
     }
-    for hop in 0..timing.hops(left) {
-        let link = timing.route_link(left, hop);
-        let one = first_on(timing, left, link);
-        let other = first_on(timing, right, link);
-        if let (Some(one), Some(other)) = (one, other) {
-            if lags.is_empty() {
-                note_lags(lags, timing, left, right)?;
-            }
-            let meeting = Meeting {
-                least: less(low_of(table, right), high_of(table, left)),
-                greatest: less(high_of(table, right), low_of(table, left)),
-                link,
-                left: one,
-                right: other,
-            };
-            note_conflicts(conflicts, lags, meeting)?;
-        }
+    note_lags(lags, timing, left, right)?;
+    for rivalry in both {
+        let one = User {
+            stream: left,
+            hop: rivalry.left_hop,
+        };
+        let other = User {
+            stream: right,
+            hop: rivalry.right_hop,
+        };
+        let meeting = Meeting {
+            least: less(low_of(table, right), high_of(table, left)),
+            greatest: less(high_of(table, right), low_of(table, left)),
+            link: link_of(timing, one),
+            left: first_of(timing, one),
+            right: first_of(timing, other),
+        };
+        note_conflicts(conflicts, lags, meeting)?;
     }
     Ok(())
+}
+
+// The link of a stream's hop; 0 where there is none.
+fn link_of(timing: &Timing, user: User) -> usize {
+    let User { stream, hop } = user;
+    if stream < timing.streams() && hop < timing.hops(stream) {
+        timing.route_link(stream, hop)
+    } else {
+        0
+    }
 }
 
 fn low_of(table: &Table, stream: usize) -> i64 {
@@ -260,8 +336,9 @@ fn note_lags(
     let most = signed(timing.period(left));
     let least = signed(timing.period(right)).wrapping_neg();
     for first in timing.shifts(left) {
-        for second in timing.shifts(right) {
-            let lag = less(signed(*second), signed(*first));
+        let first = signed(*first);
+        for second in timing.shifts_between(right, sum(first, least), sum(first, most)) {
+            let lag = less(signed(*second), first);
             if least < lag && lag < most {
                 push(lags, lag)?;
             }

@@ -1,5 +1,6 @@
 //! What is open below a node, walked depth first and looked at by batches.
 ghost use Rattle.std.specs.Prelude.{◌≡◌, ◌≤◌, true, false, None, map, IfOk, IfSome, OnOk, IsTrue, ◌↔◌, MatchBool, MatchOption, option_copied};
+ghost use Rattle.tsn_model.specs.Network.{HasFewStreams};
 ghost use Rattle.tsn_timing.specs.Solution.{IsSolved};
 ghost use Rattle.tsn_conflict.specs.Kept.{AreConflictsOf};
 ghost use Rattle.tsn_node.specs.Outcome.{outcome_of};
@@ -66,8 +67,9 @@ impl NodeResult {
 }
 
 impl Below {
-    /// All that is open below the root.
+    /// All that is open below the root, of at most 128 streams.
     pub fn root(alloc: Global, timing: &Timing) -> Result<Below, NoMemory>
+        requires { HasFewStreams timing.now }
         ensures { IfOk result (λ below. (triples : _) → IsBelow timing.now triples below) }
     {
         Ok(Below {

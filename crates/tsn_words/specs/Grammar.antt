@@ -119,7 +119,7 @@ replay =
 
 -- an option with a link's number
 abbrev pub link_option : Rule
-link_option = record (new_rule (codes "link")) { long = Some (codes "link"); value_names = 1; action = Some Set; parser = Some (Unsigned 0 1023) }
+link_option = record (new_rule (codes "link")) { long = Some (codes "link"); value_names = 1; action = Some Set; parser = Some (Unsigned 0 4095) }
 
 -- chart NET PLAN [--until NS] [--all] [--link N] [--cert FILE]
 abbrev pub chart : App

@@ -44,7 +44,7 @@ pub const MAX_ENTRIES: usize = 1_000_000;
 pub const DEFAULT_ENTRIES: usize = 30;
 
 /// The greatest number of a directed link.
-pub const MAX_LINK: u64 = 1023;
+pub const MAX_LINK: u64 = 4095;
 
 /// The most nodes that a run settles where the words don't say, and the most conflicts and steps of an argument.
 pub const DEFAULT_STEPS: usize = 1_000_000;
@@ -506,7 +506,7 @@ pub struct ChartWords<'a> {
     pub cert: Option<&'a str>,
     pub ghost some: { 1 ≤ until },
     pub ghost few: { until ≤ 1000000000 },
-    pub ghost link_small: { ForSome link (λ number. number ≤ 1023) },
+    pub ghost link_small: { ForSome link (λ number. number ≤ 4095) },
 }
 
 const CHART: Form = Form {
@@ -523,11 +523,11 @@ const CHART: Form = Form {
         Argument {
             name: "all",
             takes: Takes::Nothing,
-            help: "Show all links in use; without it, if they are more than 32, only those that several streams share",
+            help: "Show all links in use; without it, if they are more than 32, only those that several streams share, or of more than 128 streams the 32 busiest",
         },
         Argument {
             name: "link",
-            takes: Takes::Number(0, MAX_LINK, "0..1023"),
+            takes: Takes::Number(0, MAX_LINK, "0..4095"),
             help: "Show the link of this number alone",
         },
         Argument {

@@ -22,6 +22,7 @@ pub alone : (workers : ℕ) (left : Found) → workers ≡ 1 → IsTeamwork work
 alone workers (found.Finished book) one = λ two. absurd (omega arith)
 alone workers (found.Argued plan argument) one = tt
 alone workers (found.Stopped book known) one = λ two. absurd (omega arith)
+alone workers (found.GaveUp known count) one = tt
 
 gathered_in : (workers : ℕ) (ended : Ended) (gathered book : Progress) → ended.seat.race.tellers ≡ workers + 1
     → IsGathered ended gathered → IsFurther workers gathered book → IsGatheredIn workers ended book
@@ -41,6 +42,7 @@ pub together : (workers : ℕ) (ended : Ended) (gathered : Progress) (left : Fou
 together workers ended gathered (found.Finished book) tellers is further = λ two. gathered_in workers ended gathered book tellers is further
 together workers ended gathered (found.Argued plan argument) tellers is further = tt
 together workers ended gathered (found.Stopped book known) tellers is further = λ two. gathered_in workers ended gathered book tellers is further
+together workers ended gathered (found.GaveUp known count) tellers is further = absurd further
 
 -- what they gathered is what is answered of the book
 gathered_for : (network : Network) (workers : ℕ) (word : Option Ended) (book : Progress) (answer : Answer) → book.network ≡ network → IsLawful book
@@ -57,6 +59,7 @@ answered network limit workers word (found.Finished book) answer done team of =
 answered network limit workers word (found.Argued plan argument) answer argued team none = λ two tree. absurd (none tree)
 answered network limit workers word (found.Stopped book known) answer stopped team of =
     λ two tree. gathered_for network workers word book answer stopped.stopped.same_network stopped.stopped.lawful of (team two)
+answered network limit workers word (found.GaveUp known count) answer given_up team of = absurd of
 
 -- in the order of the file a certificate is a tree, which is whole
 pub has_tree : (network : Network) (limit : ℕ) (effort : Effort) (answer : Answer)
@@ -72,6 +75,7 @@ pub by_book : (effort : Effort) (left : Found) → HasNoArgument left → IsFoun
 by_book effort (found.Finished book) none = tt
 by_book effort (found.Argued plan argument) none = absurd none
 by_book effort (found.Stopped book known) none = tt
+by_book effort (found.GaveUp known count) none = absurd none
 
 -- the two together, of a planner's result
 pub tree_of : {E : Type 0} (result : Result Answer E) (network : Network) (limit : ℕ) (effort : Effort) → effort.method ≡ FileOrder

@@ -11,3 +11,4 @@ abbrev pub GoesOn : ℕ → Progress → Found → Type 0
 GoesOn teller book (found.Finished left) = IsFurther teller book left
 GoesOn teller book (found.Argued plan argument) = Unit {0}
 GoesOn teller book (found.Stopped left known) = IsFurther teller book left
+GoesOn teller book (found.GaveUp known count) = ⊥

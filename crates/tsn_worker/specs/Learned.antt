@@ -18,15 +18,15 @@ use Rattle.tsn_worker.specs.declared.learned.Learned.TheVariants.{Shown, Open}
 use Rattle.tsn_answer.specs.Known.{IsKnown, LosesNothing}
 use Rattle.tsn_answer.specs.Answer.{IsArgued}
 
--- what is shown is so, by at most so many steps; where nothing is shown, nothing is lost of what was known before
+-- what is shown is so, by at most so many steps; where nothing is shown, nothing is lost of what was known before, and no more conflicts are told of
 abbrev pub IsLearned : Network → ℕ → Known → Learned → Type 0
 IsLearned network limit before (Shown plan argument) = IsArgued network limit plan argument
-IsLearned network limit before (Open known) = IsKnown network known × LosesNothing before known
+IsLearned network limit before (Open known count) = IsKnown network known × LosesNothing before known × (count ≤ limit)
 
 -- the flowspan of the plan that is shown, 0 where that is that there is none; else the bound that is known
 abbrev pub bound_in : Learned → ℕ
 bound_in (Shown plan argument) = span_in plan
-bound_in (Open known) = known.bound
+bound_in (Open known count) = known.bound
 
 -- the argument is right, and its goal is that no valid schedule undercuts the plan
 abbrev pub ShowsLeast : Network → Plan → Argument → Type 0

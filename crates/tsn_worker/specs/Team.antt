@@ -29,11 +29,12 @@ pub record IsGatheredIn (workers : ℕ) (ended : Ended) (book : Progress) : Type
 abbrev pub HasWord : ℕ → Option Ended → Progress → Type 0
 HasWord workers word book = 2 ≤ workers → IsSomeAnd word (λ ended. IsGatheredIn workers ended book)
 
--- what so many workers found; an argument is nobody's book
+-- what so many workers found; an argument is nobody's book, nor is there one where the conflict-driven search gave up
 abbrev pub IsTeamwork : ℕ → Option Ended → Found → Type 0
 IsTeamwork workers word (found.Finished book) = HasWord workers word book
 IsTeamwork workers word (found.Argued plan argument) = Unit {0}
 IsTeamwork workers word (found.Stopped book known) = HasWord workers word book
+IsTeamwork workers word (found.GaveUp known count) = Unit {0}
 
 -- the word is that of a book of a lawful search for the network, and the answer is that book, or what it tells: the plan that it has kept, its tree, and how
 -- many nodes were settled in it

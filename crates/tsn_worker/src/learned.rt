@@ -9,7 +9,7 @@ ghost use Rattle.tsn_worker.specs.Learned.{CountsBound, IsLearned, ShowsLeast, b
 use crate::task::Task;
 use crate::telling::tell_bound;
 use std::alloc::Global;
-use tsn_answer::{Hearer, Known, budget_of};
+use tsn_answer::{Hearer, Known, budget_of, count_of};
 use tsn_argue::check_argument;
 use tsn_branch::{Phase, Supervisor};
 use tsn_cert::{Argument, Offsets, Plan};
@@ -23,16 +23,16 @@ use tsn_timing::{Problem, Timing};
 pub enum Learned {
     /// A plan, and an argument that shows it.
     Shown(Plan, Argument),
-    /// Nothing that is shown; and what is known.
-    Open(Known),
+    /// Nothing that is shown; what is known, and after how many conflicts, no more than there may be.
+    Open(Known, usize),
 }
 
-// What is asked: of what network, and with how many steps at most.
+/// What is asked: of what network, and with how many steps at most.
 #[derive(Clone, Copy)]
-struct Question<'a> {
-    problem: &'a Problem,
-    timing: &'a Timing,
-    limit: usize,
+pub struct Question<'a> {
+    pub problem: &'a Problem,
+    pub timing: &'a Timing,
+    pub limit: usize,
 }
 
 /// What a conflict-driven search finds, from the schedule on that is known, where there is one: an argument of at most so many steps, which
@@ -48,9 +48,23 @@ pub fn find_by_learning<S: Supervisor>(task: &Task<'_, S>, known: Known) -> Lear
         timing: setting.tables.timing,
         limit: task.effort.limit,
     };
-    setting.supervisor.begin(Phase::Learning);
-    let learned = learned_by(setting.alloc, question, known, setting.supervisor);
-    tell_bound(setting, bound_of(&learned));
+    learn_of(setting.alloc, question, known, setting.supervisor)
+}
+
+/// The same, of what is asked.
+pub fn learn_of<S: Supervisor>(
+    alloc: Global,
+    question: Question<'_>,
+    known: Known,
+    supervisor: &S,
+) -> Learned
+    requires timing { question.timing.now ≡ question.problem.now.network }
+    requires known { IsKnown question.problem.now.network known }
+    ensures { IsLearned question.entry.problem.now.network question.entry.limit known result }
+{
+    supervisor.begin(Phase::Learning);
+    let learned = learned_by(alloc, question, known, supervisor);
+    tell_bound(question.timing, supervisor, bound_of(&learned));
     learned
 }
 
@@ -77,28 +91,31 @@ fn learned_by<S: Supervisor>(
                 offsets,
                 flowspan,
                 argument,
-                conflicts: _,
+                conflicts,
             } = found;
             let plan = Plan::Schedule {
                 flowspan,
                 offsets: Offsets::of(offsets),
             };
-            judged(alloc, question, plan, argument, known)
+            judged(alloc, question, plan, argument, known, conflicts)
         }
         Ok(
             LearnAnswer::None {
                 argument,
-                conflicts: _,
+                conflicts,
             },
         ) => match argument {
-            Some(argument) => judged(alloc, question, Plan::None, argument, known),
-            None => Learned::Open(known),
+            Some(argument) => judged(alloc, question, Plan::None, argument, known, conflicts),
+            None => Learned::Open(known, count_of(conflicts, question.limit)),
         },
-        Ok(LearnAnswer::GaveUp(best)) => match given_up(alloc, question, best, known) {
-            Ok(known) => Learned::Open(known),
-            Err(known) => Learned::Open(known),
-        },
-        Err(_) => Learned::Open(known),
+        Ok(LearnAnswer::GaveUp(best)) => {
+            let count = count_of(best.conflicts, question.limit);
+            match given_up(alloc, question, best, known) {
+                Ok(known) => Learned::Open(known, count),
+                Err(known) => Learned::Open(known, count),
+            }
+        }
+        Err(_) => Learned::Open(known, 0),
     }
 }
 
@@ -108,7 +125,7 @@ fn bound_of(learned: &Learned) -> u64
 {
     match learned {
         Learned::Shown(plan, _) => span_of(plan),
-        Learned::Open(known) => known.bound,
+        Learned::Open(known, _) => known.bound,
     }
 }
 
@@ -119,6 +136,7 @@ fn judged(
     plan: Plan,
     argument: Argument,
     known: Known,
+    conflicts: u64,
 ) -> Learned
     requires timing { question.timing.now ≡ question.problem.now.network }
     requires known { IsKnown question.problem.now.network known }
@@ -129,7 +147,10 @@ fn judged(
         return Learned::Shown(plan, argument);
     }
     drop(argument);
-    Learned::Open(known.with_plan(question.timing, plan))
+    Learned::Open(
+        known.with_plan(question.timing, plan),
+        count_of(conflicts, question.limit),
+    )
 }
 
 // Whether the argument shows by at most so many steps that the plan is the first one, or that there is none where it says so; and

@@ -1,5 +1,7 @@
 //! Plans a network.
-ghost use Rattle.std.specs.Prelude.{◌≡◌, ◌≤◌, ◌<◌, length, IfOk};
+ghost use Rattle.std.specs.Prelude.{◌≡◌, ◌≤◌, ◌<◌, ℕ, None, length, IfOk};
+ghost use Rattle.tsn_model.specs.Network.{HasFewStreams, stream_count};
+ghost use Rattle.tsn_words.specs.declared.options.Method.TheVariants.{FileOrder};
 ghost use Rattle.tsn_answer.specs.Optimum.{AnswersOptimum, FindsOptimum};
 ghost use Rattle.tsn_answer.specs.Answer.{HasTree, IsAnswerBy, IsAnswerReadAgain, IsAnswerShown, IsFound, IsFoundBy, HasNoArgument, KeepsFound, KeepsKept, KeepsKnown};
 ghost use Rattle.tsn_answer.specs.Known.{IsKnown};
@@ -9,7 +11,7 @@ ghost use Rattle.tsn_worker.specs.Team.{IsByTeam, IsTeamAnswer, IsTeamwork};
 ghost use Rattle.tsn_worker.specs.declared.planning.TheConstants.{GOES_ON_FROM};
 
 use crate::deque::DequeBag;
-use crate::learned::{Learned, find_by_learning};
+use crate::learned::{Learned, Question, find_by_learning, learn_of};
 use crate::searched::{Planned, Searched};
 use crate::task::Task;
 use crate::telling::{tell_bound, tell_found};
@@ -20,7 +22,7 @@ use std::sync::Wait;
 use std::thread::Threads;
 use tsn_answer::{Answer, Effort, FILE_ORDER_LIMIT, Found, Known, MAX_LIMIT, MAX_WORKERS};
 use tsn_book::Book;
-use tsn_branch::{Phase, Prepared, Setting, Supervisor, lower_bound};
+use tsn_branch::{FEW_STREAMS, Phase, Prepared, Setting, Supervisor, lower_bound};
 use tsn_incumbent::Parts;
 use tsn_model::NoMemory;
 use tsn_timing::Problem;
@@ -51,6 +53,7 @@ pub fn plan<R: Threads + Wait + Sync, S: Supervisor + Sync>(
     requires workers { (1 ≤ workers) × (workers ≤ MAX_WORKERS) }
     requires some { 1 ≤ limit }
     requires few { limit ≤ MAX_LIMIT }
+    requires few_streams { HasFewStreams problem.now.network }
     ensures optimum { IfOk result (AnswersOptimum problem.now.network) }
     ensures shown { IfOk result (IsAnswerShown problem.now.network limit) }
     ensures method { IfOk result HasTree }
@@ -78,6 +81,7 @@ pub fn plan_by<R: Threads + Wait + Sync, S: Supervisor + Sync>(
     requires workers { (1 ≤ effort.workers) × (effort.workers ≤ MAX_WORKERS) }
     requires some { 1 ≤ effort.limit }
     requires few { effort.limit ≤ MAX_LIMIT }
+    requires few_streams { HasFewStreams problem.now.network }
     ensures optimum { IfOk result (λ planned. AnswersOptimum problem.now.network planned.answer) }
     ensures shown { IfOk result (λ planned. IsAnswerShown problem.now.network effort.limit planned.answer) }
     ensures read_again { IfOk result (λ planned. IsAnswerReadAgain planned.answer) }
@@ -96,7 +100,8 @@ pub fn plan_by<R: Threads + Wait + Sync, S: Supervisor + Sync>(
 
 /// What is searched for `plan_by`, and no certificate: the book that is left says which schedule is the first, or that there is
 /// none, where no node is open in it. Where the limit is met the best schedule that any phase of the search has found is known
-/// besides, and what no schedule undercuts.
+/// besides, and what no schedule undercuts. Of more than 128 streams, which aren't searched in the order of the file, the
+/// conflict-driven search alone finds what an argument shows, or gives up with what is known then.
 pub fn search_by<R: Threads + Wait + Sync, S: Supervisor + Sync>(
     rt: &R,
     alloc: Global,
@@ -107,7 +112,56 @@ pub fn search_by<R: Threads + Wait + Sync, S: Supervisor + Sync>(
     requires workers { (1 ≤ effort.workers) × (effort.workers ≤ MAX_WORKERS) }
     requires some { 1 ≤ effort.limit }
     requires few { effort.limit ≤ MAX_LIMIT }
+    requires order { effort.method ≡ FileOrder → HasFewStreams problem.now.network }
     ensures optimum { IfOk result (λ searched. FindsOptimum problem.now.network searched.found) }
+    ensures found { IfOk result (λ searched. IsFound problem.now.network effort.limit searched.found) }
+    ensures method { IfOk result (λ searched. HasFewStreams problem.now.network → IsFoundBy effort searched.found) }
+    ensures gathered { IfOk result (λ searched. IsTeamwork effort.workers searched.word searched.found) }
+{
+    if problem.timing().streams() > FEW_STREAMS {
+        let found = search_many(alloc, problem, effort.limit, supervisor);
+        return Ok(Searched::alone(found));
+    }
+    search_few(rt, alloc, problem, effort, supervisor)
+}
+
+// What is found of more than 128 streams, by at most so many steps.
+fn search_many<S: Supervisor>(
+    alloc: Global,
+    problem: &Problem,
+    limit: usize,
+    supervisor: &S,
+) -> Found
+    requires { 128 < stream_count problem.now.network }
+    ensures found { IsFound problem.now.network limit result }
+    ensures team { (workers : ℕ) → IsTeamwork workers None result }
+{
+    let timing = problem.timing();
+    let known = Known::of(timing);
+    tell_bound(timing, supervisor, known.bound);
+    let question = Question {
+        problem,
+        timing,
+        limit,
+    };
+    match learn_of(alloc, question, known, supervisor) {
+        Learned::Shown(plan, argument) => Found::Argued(plan, argument),
+        Learned::Open(known, count) => Found::GaveUp(known, count),
+    }
+}
+
+// What is found of at most 128 streams.
+fn search_few<R: Threads + Wait + Sync, S: Supervisor + Sync>(
+    rt: &R,
+    alloc: Global,
+    problem: &Problem,
+    effort: Effort,
+    supervisor: &S,
+) -> Result<Searched, NoMemory>
+    requires workers { (1 ≤ effort.workers) × (effort.workers ≤ MAX_WORKERS) }
+    requires some { 1 ≤ effort.limit }
+    requires few { effort.limit ≤ MAX_LIMIT }
+    requires few_streams { HasFewStreams problem.now.network }
     ensures found { IfOk result (λ searched. IsFound problem.now.network effort.limit searched.found) }
     ensures method { IfOk result (λ searched. IsFoundBy effort searched.found) }
     ensures gathered { IfOk result (λ searched. IsTeamwork effort.workers searched.word searched.found) }
@@ -141,6 +195,7 @@ pub fn plan_over<R: Threads + Wait + Sync, S: Supervisor + Sync, B: Bag + Send>(
     requires workers { (2 ≤ length bags.items) × (length bags.items ≤ MAX_WORKERS) }
     requires some { 1 ≤ limit }
     requires few { limit ≤ MAX_LIMIT }
+    requires few_streams { HasFewStreams problem.now.network }
     ensures optimum { IfOk result (AnswersOptimum problem.now.network) }
     ensures shown { IfOk result (IsAnswerShown problem.now.network limit) }
     ensures method { IfOk result HasTree }
@@ -194,7 +249,7 @@ fn known_at_root<S: Supervisor>(setting: &Setting<'_, S>) -> Result<Known, NoMem
         best: None,
         bound: bound.min(setting.tables.timing.cycle()),
     };
-    tell_bound(setting, known.bound);
+    tell_bound(setting.tables.timing, setting.supervisor, known.bound);
     Ok(known)
 }
 
@@ -265,6 +320,10 @@ fn search_beyond<R: Threads + Wait + Sync, S: Supervisor + Sync>(
             drop(word);
             search_learning(rt, task, known)
         }
+        Found::GaveUp(known, count) => Ok(Searched {
+            found: Found::GaveUp(known, count),
+            word,
+        }),
         Found::Argued(plan, argument) => Ok(Searched {
             found: Found::Argued(plan, argument),
             word,
@@ -316,7 +375,7 @@ fn search_after<S: Supervisor>(
             drop(book);
             Ok(Found::Argued(plan, argument))
         }
-        Learned::Open(known) => go_on(task, known, book),
+        Learned::Open(known, _) => go_on(task, known, book),
     }
 }
 
@@ -349,7 +408,7 @@ fn search_learning<R: Threads + Wait + Sync, S: Supervisor + Sync>(
 {
     match find_by_learning(task, known) {
         Learned::Shown(plan, argument) => Ok(Searched::alone(Found::Argued(plan, argument))),
-        Learned::Open(known) => search_with(rt, task, Phase::Along, known),
+        Learned::Open(known, _) => search_with(rt, task, Phase::Along, known),
     }
 }
 

@@ -5,13 +5,16 @@ ghost use Rattle.tsn_branch.specs.Bound.{IsLowerBound};
 use crate::task::Task;
 use tsn_answer::Found;
 use tsn_book::Book;
-use tsn_branch::{Setting, Supervisor};
+use tsn_branch::Supervisor;
+use tsn_timing::Timing;
 
 /// Tells the supervisor what no valid schedule's flowspan is below, in nanoseconds.
-pub fn tell_bound<S: Supervisor>(setting: &Setting<'_, S>, bound: u64)
-    requires { IsLowerBound setting.now.tables.timing.now bound }
+pub fn tell_bound<S: Supervisor>(timing: &Timing, supervisor: &S, bound: u64)
+    requires { IsLowerBound timing.now bound }
 {
-    setting.supervisor.hear_bound(bound);
+    // The network stands in the contract alone.
+    let _ = timing;
+    supervisor.hear_bound(bound);
 }
 
 /// Tells the supervisor that no valid schedule's flowspan is below that of the plan, where a book is finished and has kept one. (Of an
@@ -29,6 +32,7 @@ fn tell_kept<S: Supervisor>(task: &Task<'_, S>, book: &Book)
     requires { IsFinished task.now.setting.now.tables.timing.now task.now.effort.limit book.now }
 {
     if let Some(kept) = book.kept() {
-        tell_bound(task.setting, kept.flowspan());
+        let setting = task.setting;
+        tell_bound(setting.tables.timing, setting.supervisor, kept.flowspan());
     }
 }

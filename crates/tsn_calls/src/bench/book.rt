@@ -75,6 +75,9 @@ fn timing_of(alloc: Global, network: &[u8]) -> Option<Timing> {
 fn begun_at(alloc: Global, timing: &Timing, events: usize) -> Option<(Conflicts, Book)>
     ensures { IfSome result (λ begun. 0 < begun.1.tellers) }
 {
+    if timing.streams() > 128 {
+        return None;
+    }
     let shared = conflicts(alloc, timing).ok()?;
     let book = Book::new(alloc, timing, 1, events).ok()?;
     Some((shared, book))

@@ -141,6 +141,7 @@ pub fn print_look_from<R: Abort + AllocGlobal>(rt: &R, timing: &Timing, asked: &
 }
 
 fn fits_in<R: Abort + AllocGlobal>(rt: &R, timing: &Timing, node: &Node) -> bool {
+    assert!(rt; timing.streams() <= 128);
     let shared = conflicts(rt.alloc(), timing).expect(rt, "memory");
     let fitting = fits(&shared, node);
     drop(shared);

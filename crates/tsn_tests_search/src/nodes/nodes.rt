@@ -82,6 +82,7 @@ fn look_at<R: Abort + AllocGlobal>(
     requires { IfSome (option_copied best) (IsSolved timing.now) }
     ensures { HasProof timing.now node.now (outcome_of result) }
 {
+    assert!(rt; timing.streams() <= 128);
     let shared = conflicts(rt.alloc(), timing).expect(rt, "memory");
     assert!(rt; fits(&shared, node));
     let found = look(rt.alloc(), timing, &shared, node, target, best).expect(rt, "memory");
@@ -196,6 +197,7 @@ pub fn looked_from<R: Abort + AllocGlobal>(
     side: &str,
     target: u64,
 ) -> Look {
+    assert!(rt; timing.streams() <= 128);
     let shared = conflicts(rt.alloc(), timing).expect(rt, "memory");
     let root = Node::root(rt.alloc());
     let above = find_at(rt, timing, &shared, &root, None, target);

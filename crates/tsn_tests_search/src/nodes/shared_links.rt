@@ -10,6 +10,7 @@ use tsn_networks::{LONG, LOOP, THERE_AND_BACK, TWO};
 use tsn_timing::Timing;
 
 fn conflicts_of<R: Abort + AllocGlobal>(rt: &R, timing: &Timing) -> Conflicts {
+    assert!(rt; timing.streams() <= 128);
     conflicts(rt.alloc(), timing).expect(rt, "memory")
 }
 
@@ -76,6 +77,7 @@ fn first_overlap<R: Abort + AllocGlobal>(
     timing: &Timing,
     offsets: &[u64],
 ) -> Option<Triple> {
+    assert!(rt; timing.streams() <= 128);
     let found = conflicts(rt.alloc(), timing).expect(rt, "memory");
     assert!(rt; offsets.len() == timing.streams());
     assert!(rt; offsets.iter().all(|&offset| offset <= 1_000_000_000));

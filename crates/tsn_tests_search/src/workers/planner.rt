@@ -80,6 +80,7 @@ fn answer_over<R: Abort + Threads + Wait + Sync, S: Supervisor + Sync, B: Bag + 
     bags: Vec<B>,
 ) -> Answer {
     assert!(rt; 2 <= bags.len() && bags.len() <= 16);
+    assert!(rt; problem.timing().streams() <= 128);
     plan_over(rt, alloc, problem, LIMIT, supervisor, bags).expect(rt, "memory")
 }
 
@@ -104,6 +105,7 @@ fn answer_by<R: Abort + Threads + Wait + Sync, S: Supervisor + Sync>(
     let (method, workers, limit) = asked;
     assert!(rt; 1 <= workers && workers <= 16);
     assert!(rt; 1 <= limit && limit <= LIMIT);
+    assert!(rt; problem.timing().streams() <= 128);
     match method {
         Method::FileOrder => {
             plan(rt, alloc, problem, workers, limit, supervisor).expect(rt, "memory")

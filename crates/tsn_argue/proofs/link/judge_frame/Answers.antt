@@ -1,7 +1,6 @@
-use Rattle.std.proofs.Common.{◌∷◌, Contains, refl, subst, inl, inr, arith}
+use Rattle.std.proofs.Common.{◌∷◌, Contains, refl, subst, inl, inr}
 use Rattle.std.proofs.lemmas.Result.{err_from_is_err_and}
 use Rattle.tsn_model.proofs.Lists.{Contains-head, Contains-more}
-use Rattle.tsn_model.proofs.Routes.{UsesLink-counted}
 use Rattle.tsn_argue.proofs.JudgeFrames.{none_behind}
 use Rattle.tsn_argue.proofs.link.judge_frame.Goals as goal
 
@@ -14,16 +13,12 @@ pub returns-then-is_same : goal.returns-then-is_same
 returns-then-is_same c = inr (
   refl,
   c.in_ok-judge_on.ensures,
-  subst (λ f. Contains (f ∷ c.args.others.now) c.args.frame) c.if-is_same.ensures (Contains-head c.args.frame c.args.others.now),
+  subst (λ f. Contains (f ∷ c.args.seen.now) c.args.frame) c.if-is_same.ensures (Contains-head c.args.frame c.args.seen.now),
 )
 
-pub has-requires-clause-inside : goal.has-requires-clause-inside
-has-requires-clause-inside c =
-    let counted = UsesLink-counted c.args.timing.now c.args.frame.stream c.args.link c.in_ok-judge_on.ensures.uses in
-    omega arith
+pub returns-then-add : goal.returns-then-add
+returns-then-add c =
+    (c.in_ok-judge_on.ensures, none_behind c.args.first c.args.frame c.args.seen.now c.if-is_same.ensures c.if-add.ensures.0, c.if-add.ensures.1)
 
-pub returns-then-has : goal.returns-then-has
-returns-then-has c = inr (refl, c.in_ok-judge_on.ensures, Contains-more c.args.first c.args.others.now c.args.frame c.if-has.ensures)
-
-pub returns : goal.returns
-returns c = (c.in_ok-judge_on.ensures, none_behind c.args.first c.args.frame c.args.others.now c.if-is_same.ensures c.if-has.ensures)
+pub returns-else-add : goal.returns-else-add
+returns-else-add c = inr (refl, c.in_ok-judge_on.ensures, Contains-more c.args.first c.args.seen.now c.args.frame c.if-add.ensures)

@@ -28,7 +28,7 @@ released-requires-clause-few c =
     let whole : c.loop-stream.releases.items ≡ releases_of network =
     c.loop-stream.invariant.copied ∙ take_all c.loop-stream.stream (releases_of network) (let long = length-releases network in let last = c.loop-stream.invariant.end in let past = c.loop-stream-test.false in omega arith) in
     let same : length c.loop-stream.releases.items ≡ stream_count network = ap length whole ∙ length-releases network in
-    let few = c.streams-stream-end.ensures.few in
+    let few = c.requires in
     let count = c.streams-stream-end.ensures.value in
     omega arith
 

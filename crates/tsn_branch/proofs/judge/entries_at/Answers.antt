@@ -1,12 +1,12 @@
-use Rattle.std.proofs.Common.{◌≡◌, ◌<◌, ℕ, List, length, get_or, map, All, Some, sym, ap, ◌∙◌, subst, arith}
+use Rattle.std.proofs.Common.{◌≡◌, ◌<◌, ◌≤◌, ℕ, List, length, get_or, map, All, Some, sym, ap, ◌∙◌, subst, arith}
 use Rattle.std.proofs.lemmas.List.{length-map}
 use Rattle.std.proofs.lemmas.Option.{slice_get-get_or}
-use Rattle.tsn_model.specs.Network.{Network, IsWellFormed, stream_count}
+use Rattle.tsn_model.specs.Network.{Network, IsWellFormed, HasFewStreams, stream_count}
 use Rattle.tsn_branch.specs.declared.loads.LinkTable.{LinkTable}
 use Rattle.tsn_branch.specs.Links.{shared_links}
 use Rattle.tsn_branch.specs.Loads.{IsEarly, link_in, shared_link}
 use Rattle.tsn_branch.proofs.Leasts.{count, short}
-use Rattle.tsn_branch.proofs.Loading.{IsMeasured, table_there, table_measured, users_are, link_is}
+use Rattle.tsn_branch.proofs.Loading.{IsMeasured, table_there, table_measured, users_are, users_below, users_count, link_is}
 use Rattle.tsn_branch.proofs.Shown.{shown_by}
 use Rattle.tsn_branch.proofs.judge.entries_at.Goals as goal
 
@@ -16,6 +16,13 @@ module _ (network : Network) (tables : List LinkTable) (same : map link_in table
   there =
       (table_there network tables link_index table same
       (omega (arith, ap length same, length-map tables link_in, length-map (shared_links network) (shared_link network))) is).1
+
+  users_counted : IsWellFormed network → HasFewStreams network → length table.users.items ≤ 128
+  users_counted formed few =
+      let link = get_or (shared_links network) link_index 0 in
+      let counted = users_count network link (link_in table) there in
+      let below_few = users_below network formed link few in
+      omega arith
 
   measured : IsWellFormed network → IsMeasured network table
   measured formed = table_measured network formed link_index table below there
@@ -27,8 +34,8 @@ entries_of-requires-clause-some_user c =
 
 pub entries_of-requires-clause-few_users : goal.entries_of-requires-clause-few_users
 entries_of-requires-clause-few_users c =
-    let found = measured c.args.tables.timing.now c.tables.result.now (c.tables.ensures ∙ c.args.tables.right_loads) c.args.link_index c.requires.link_index c.index-tables-link_index.result c.index-tables-link_index.is c.args.tables.right_conflicts.formed in
-    omega (arith, found.few, ap length c.deref.ensures.value)
+    let few = users_counted c.args.tables.timing.now c.tables.result.now (c.tables.ensures ∙ c.args.tables.right_loads) c.args.link_index c.requires.link_index c.index-tables-link_index.result c.index-tables-link_index.is c.args.tables.right_conflicts.formed c.args.tables.right_conflicts.few in
+    omega (arith, few, ap length c.deref.ensures.value)
 
 pub entries_of-requires-clause-streams : goal.entries_of-requires-clause-streams
 entries_of-requires-clause-streams c k d below =
@@ -44,7 +51,7 @@ entries_of-requires-clause-short c k d below =
     let found = measured network c.tables.result.now (c.tables.ensures ∙ c.args.tables.right_loads) c.args.link_index c.requires.link_index c.index-tables-link_index.result c.index-tables-link_index.is c.args.tables.right_conflicts.formed in
     let early = subst (All (IsEarly (stream_count network))) (sym c.deref.ensures.value) found.early in
     let path = c.requires.some_path in
-    short network path.0 c.args.least.now path.1 c.args.tables.right_conflicts.formed (get_or c.deref.result.now k d).stream (early k d below).counted
+    short network path.0 c.args.least.now path.1 c.args.tables.right_conflicts.few (get_or c.deref.result.now k d).stream (early k d below).counted
 
 pub returns-clause-link : goal.returns-clause-link
 returns-clause-link c =

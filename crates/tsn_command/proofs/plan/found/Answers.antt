@@ -1,4 +1,5 @@
-use Rattle.tsn_cli.proofs.PlanLemmas.{found_comes, found_knows, none_open, wanted_by}
+use Rattle.std.proofs.Common.{◌∙◌}
+use Rattle.tsn_cli.proofs.PlanLemmas.{found_comes, found_knows, many_comes, none_open, wanted_by}
 use Rattle.tsn_command.proofs.plan.found.Goals as goal
 
 pub output_for-requires : goal.output_for-requires
@@ -24,3 +25,11 @@ returns-in_ok-output_for-in-Taken-clause-knows g c =
 pub returns-in_ok-output_for-in-Taken-clause-wanted : goal.returns-in_ok-output_for-in-Taken-clause-wanted
 returns-in_ok-output_for-in-Taken-clause-wanted g c =
     wanted_by c.args.wanted c.in_ok-found-in-Taken.field-0.found c.in_ok-output_for-in-Taken.field-0.second c.in_ok-output_for-in-Taken.ensures.cert
+
+pub returns-then-is_too_many-clause-comes : goal.returns-then-is_too_many-clause-comes
+returns-then-is_too_many-clause-comes g c =
+    let network = rw c.in-Taken.is at c.in_ok-problem.ensures in
+    let many = rw c.if-is_too_many.true at c.is_too_many.ensures in
+    let e = c.alone.ensures in
+    many_comes c.args.effort c.args.wanted _ c.alone.result c.in-Taken.problem network many.0 many.1
+    (e.answer ∙ c.in_ok-answer-in-Taken.ensures) e.first e.second

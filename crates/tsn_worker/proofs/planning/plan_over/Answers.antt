@@ -1,16 +1,23 @@
-use Rattle.std.proofs.Common.{◌∙◌, length, refl, subst}
+use Rattle.std.proofs.Common.{◌∙◌, length, refl, sym, subst}
+use Rattle.tsn_model.specs.Network.{HasFewStreams}
 use Rattle.std.proofs.lemmas.Result.{IfOk-weaker}
 use Rattle.tsn_words.specs.declared.options.Method.TheVariants.{FileOrder}
 use Rattle.tsn_answer.specs.declared.effort.Effort.{Effort}
 use Rattle.tsn_answer.specs.Optimum.{AnswersOptimum}
 use Rattle.tsn_answer.specs.Answer.{IsAnswerShown}
-use Rattle.tsn_answer.proofs.Deciding.{none_open}
+use Rattle.tsn_answer.proofs.Deciding.{none_open, not_given_up}
 use Rattle.tsn_worker.specs.Team.{IsByTeam, IsTeamwork}
 use Rattle.tsn_worker.proofs.Teams.{answered, by_book, tree_of}
 use Rattle.tsn_worker.proofs.planning.plan_over.Goals as goal
 
-pub into_answer-requires : goal.into_answer-requires
-into_answer-requires g c = none_open c.setting-setting.result.tables.timing.now c.args.limit c.in_ok-found.field-0.found c.in_ok-found.ensures.found
+pub into_answer-requires-clause-answered : goal.into_answer-requires-clause-answered
+into_answer-requires-clause-answered g c =
+    let network = c.setting-setting.result.tables.timing.now in
+    let same = c.setting-setting.ensures.timing ∙ c.in_ok-prepared.ensures.timing in
+    not_given_up network c.args.limit c.in_ok-found.field-0.found (subst HasFewStreams (sym same) c.requires.few_streams) c.in_ok-found.ensures.found
+
+pub into_answer-requires-clause-open : goal.into_answer-requires-clause-open
+into_answer-requires-clause-open g c = none_open c.setting-setting.result.tables.timing.now c.args.limit c.in_ok-found.field-0.found c.in_ok-found.ensures.found
 
 pub returns-clause-optimum : goal.returns-clause-optimum
 returns-clause-optimum g c =

@@ -1,12 +1,11 @@
-use Rattle.std.proofs.Common.{sym, ◌∙◌}
 use Rattle.std.proofs.lemmas.Result.{IfOk-weaker}
 use Rattle.tsn_answer.proofs.Deciding.{found_optimum}
 use Rattle.tsn_worker.proofs.planning.search_by.Goals as goal
 
-pub returns-clause-found : goal.returns-clause-found
-returns-clause-found g c = rw (sym (c.setting-setting.ensures.timing ∙ c.in_ok-prepared.ensures.timing)) c.search_by_method-found.ensures.found
-
 pub returns-clause-optimum : goal.returns-clause-optimum
 returns-clause-optimum g c =
-    IfOk-weaker c.search_by_method-found.result _ _ (λ searched found. found_optimum c.args.problem.now.network c.args.effort.limit searched.found found)
-    (returns-clause-found g c)
+    IfOk-weaker c.search_few.result _ _ (λ searched found. found_optimum c.args.problem.now.network c.args.effort.limit searched.found found)
+    c.search_few.ensures.found
+
+pub returns-then-streams-gt-FEW_STREAMS-clause-gathered : goal.returns-then-streams-gt-FEW_STREAMS-clause-gathered
+returns-then-streams-gt-FEW_STREAMS-clause-gathered g c = rw c.alone.ensures (c.search_many-found.ensures.team c.args.effort.workers)

@@ -1,19 +1,21 @@
-use Rattle.std.proofs.Common.{◌∙◌, ◌<◌, true, arith}
-use Rattle.std.proofs.lemmas.List.Elements.{All-push}
-use Rattle.std.proofs.lemmas.List.{length-set}
-use Rattle.tsn_argue.proofs.SeenLemmas.{marked_more, marked_still}
+use Rattle.std.proofs.Common.{◌≡◌, ◌≤◌, ◌+◌, ◌++◌, [], ◌∷◌, List, length, Contains, sym, ap, ◌∙◌, subst, arith}
+use Rattle.std.proofs.lemmas.List.{length-append}
+use Rattle.indexmap.specs.IndexSet.{index_set_len, spare}
+use Rattle.tsn_model.specs.declared.Frame.{Frame}
+use Rattle.tsn_argue.proofs.SeenLemmas.{added}
 use Rattle.tsn_argue.proofs.seen.Seen.add.Goals as goal
 
-pub returns-then-frame-eq0 : goal.returns-then-frame-eq0
-returns-then-frame-eq0 c list told = record {
-  long = length-set c.args.self.now.marks c.args.frame.stream true ∙ told.long;
-  inside = All-push (λ frame. frame.stream < 128) list c.args.frame told.inside c.requires;
-  marked = λ i below. marked_more c.args.self.now.marks list c.args.frame i c.if-frame-eq0.true (let long = told.long in omega arith) (told.marked i below);
-}
+pub invariant_of-self : goal.invariant_of-self
+invariant_of-self c =
+    let old = c.self.inside.frames in
+    let new = subst (λ (list : List Frame). Contains list c.args.frame → ⊥) (sym c.self.view_is) c.if-has.ensures in
+    let longer : length c.insert.new.self.keys ≡ length old.keys + 1 =
+    ap length (c.in-Ok.ensures.keys ∙ added old.keys c.args.frame new) ∙ length-append old.keys (c.args.frame ∷ []) in
+    let room : 65536 ≤ index_set_len c.insert.new.self + spare c.insert.new.self = omega (arith, longer, c.in-Ok.ensures.spare, c.self.invariant) in
+    room
 
-pub returns-else-frame-eq0 : goal.returns-else-frame-eq0
-returns-else-frame-eq0 c list told = record {
-  long = told.long;
-  inside = All-push (λ frame. frame.stream < 128) list c.args.frame told.inside c.requires;
-  marked = λ i below. marked_still c.args.self.now.marks list c.args.frame i c.if-frame-eq0.false (told.marked i below);
-}
+pub returns : goal.returns
+returns c =
+    let old = c.self.inside.frames in
+    let new = subst (λ (list : List Frame). Contains list c.args.frame → ⊥) (sym c.self.view_is) c.if-has.ensures in
+    (c.if-has.ensures, c.in-Ok.ensures.keys ∙ added old.keys c.args.frame new ∙ ap (λ (list : List Frame). list ++ c.args.frame ∷ []) c.self.view_is)

@@ -16,8 +16,8 @@ unfolding holds limit
 returns-in-Some c =
     let d = document_view c.args.self.now in
     let breaks : breaks_key_limit tables.Top d.top ≡ true = sym c.key_limit.ensures.0 ∙ ap is_some c.in-Some.is in
-    let frames = nat_lt 1024 (sum_by (frames_of (number_at key.Cycle d.top)) d.streams) in
-    let limits : Bool → Bool = λ b. (((b || nat_lt 256 (length d.nodes)) || nat_lt 512 (length d.cables)) || nat_lt 128 (length d.streams)) || frames in (
+    let frames = nat_lt 65536 (sum_by (frames_of (number_at key.Cycle d.top)) d.streams) in
+    let limits : Bool → Bool = λ b. (((b || nat_lt 1024 (length d.nodes)) || nat_lt 2048 (length d.cables)) || nat_lt 2048 (length d.streams)) || frames in (
       sym (ap limits (sym (top-breaks d.top) ∙ breaks)),
       subst (λ r. IfSome r (λ m. (matter_code m ≡ code.Limit) × IsMatter d Top m)) c.in-Some.is (limited d Top c.key_limit.result c.key_limit.ensures.1),
     )
