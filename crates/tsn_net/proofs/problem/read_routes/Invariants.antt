@@ -9,5 +9,5 @@ use Rattle.tsn_net.proofs.problem.read_routes.Given as goal
 -- the links so far, with those along the rest, are those along all
 abbrev pub invariant-loop-route : goal.invariant-loop-route
 invariant-loop-route l =
-    let along = route_links (names_in l.names.keys) l.links in
+    let along = route_links (names_in l.names.keys) l.index.links.now in
     fold with_links l.along.items (map along (routes_view (drop l.route-index l.routes))) ≡ union_of (map along (routes_view l.routes))

@@ -14,7 +14,7 @@ use Rattle.tsn_net.proofs.problem.with_route.Goals.{then-not-is_among+in_ok-push
 pub loop-k-preserved : goal.loop-k-preserved
 loop-k-preserved c =
     let names = names_in c.args.names.now.keys in
-    let links = c.args.links.now in
+    let links = c.args.index.now.links.now in
     let route = c.args.route.now in
     let now = c.loop-k.along.items in
     let link = c.link_between-link.result in
@@ -41,5 +41,5 @@ pub returns : goal.returns
 unfolding with_links
 returns c =
     sym (ap (with_links c.loop-k.along.items)
-    (route-end (names_in c.args.names.now.keys) c.args.links.now c.args.route.now c.loop-k.k c.loop-k.auto.k c.loop-k-test.false))
+    (route-end (names_in c.args.names.now.keys) c.args.index.now.links.now c.args.route.now c.loop-k.k c.loop-k.auto.k c.loop-k-test.false))
     ∙ c.loop-k.invariant

@@ -10,5 +10,5 @@ use Rattle.tsn_net.proofs.problem.with_route.Given as goal
 abbrev pub invariant-loop-k : goal.invariant-loop-k
 invariant-loop-k l =
     let numbers = map (number_of (names_in l.names.keys)) (texts_view l.route) in
-    with_links l.along.items (map (link_between l.links) (neighbours (drop (l.k - 1) numbers)))
-    ≡ with_links l.fn.along.items (map (link_between l.links) (neighbours numbers))
+    with_links l.along.items (map (link_between l.index.links.now) (neighbours (drop (l.k - 1) numbers)))
+    ≡ with_links l.fn.along.items (map (link_between l.index.links.now) (neighbours numbers))
