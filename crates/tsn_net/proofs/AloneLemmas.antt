@@ -1,6 +1,6 @@
 -- A route that is the only one has few steps, and without a name twice it enters each bridge once.
-use Rattle.std.proofs.Common.{◌≡◌, ℕ, ◌+◌, ◌-◌, ◌≤◌, ◌⊎◌, Bool, true, false, not, cond, ◌&&◌, List, [], ◌∷◌, ◌++◌, length, Contains, Option, Some, None, option_map, refl, ap, sym, ◌∙◌, subst, inl, inr, arith, append-nil}
-use Rattle.std.specs.Prelude.{fold, option_and_then, nat_lt, is_some, is_none}
+use Rattle.std.proofs.Common.{◌≡◌, ℕ, ◌+◌, ◌-◌, ◌≤◌, ◌⊎◌, Bool, true, false, not, cond, ◌&&◌, List, [], ◌∷◌, length, Contains, Option, Some, None, option_map, refl, ap, sym, ◌∙◌, subst, inl, inr, arith, append-nil}
+use Rattle.std.specs.Prelude.{fold, option_and_then, nat_lt, is_none}
 use Rattle.std.specs.List.{list_any, find}
 use Rattle.std.specs.Option.{option_or}
 use Rattle.std.specs.Str.{bytes_eq}
@@ -11,7 +11,7 @@ use Rattle.std.proofs.lemmas.List.Elements.{Contains-push_cases}
 use Rattle.std.proofs.lemmas.Slice.Eq.{bytes_eq-Decides}
 use Rattle.toml.specs.Data.{Data}
 use Rattle.tsn_model.proofs.Lists.{Contains-head, Contains-more, Contains-cons_cases, Contains-nil}
-use Rattle.tsn_net.specs.Conditions.{is_step, with_step, is_long, few, different, meet, meeting, neighbours, steps_of, begin_of, talker_of, other_talker, second_entry, given_again, repeats, is_no_way, runs_between_stations, names_bridge}
+use Rattle.tsn_net.specs.Conditions.{is_step, with_step, is_long, few, different, meet, meeting, neighbours, steps_of, begin_of, other_talker, second_entry, given_again, repeats, is_no_way, runs_between_stations, names_bridge}
 use Rattle.tsn_net.proofs.StepLemmas.{bool_cases, few-short}
 
 -- ---- how many steps there are
