@@ -19,7 +19,7 @@ use Rattle.tsn_net.specs.declared.fault.Code.TheVariants.{Limit}
 use Rattle.tsn_net.specs.declared.fault.Place.{Place}
 use Rattle.tsn_net.specs.declared.matter.Matter.{Matter}
 use Rattle.tsn_net.specs.declared.matter.Matter.TheVariants as matter
-use Rattle.tsn_net.specs.Conditions.{is_name, has_name, joins, routes_of, node_breaks_limit, cable_breaks_limit, stream_breaks_limit, routes_break_limit, is_no_way}
+use Rattle.tsn_net.specs.Conditions.{is_name, joins, routes_of, node_breaks_limit, cable_breaks_limit, stream_breaks_limit, routes_break_limit, is_no_way}
 use Rattle.tsn_net.specs.Matter.{absent_key, amiss_key, other_key, is_in_range, breaks_key_limit, matter_code, IsOfTable, IsOfRoute, IsOfRoutes, IsMatter}
 use Rattle.tsn_net.proofs.DocumentLemmas.{keys_in-table, take-view}
 
@@ -140,16 +140,6 @@ amiss-found t d r is found = sym (ap is_some found) ∙ found_any (λ k. holds_a
 
 pub other-found : (t : Table) (d : Data) (r : Option (List ℕ)) → r ≡ other_key t d → is_some r ≡ has_unknown_key t d
 other-found t d r found = ap is_some found ∙ found_any (λ name. not (list_any (λ k. bytes_eq (name_of k) name) (known t d))) (keys_in d)
-
--- the first of the tables before one that has its name
-pub named_before : (vs : List Value) (i : ℕ) (name other : List ℕ) (r : Option ℕ)
-    → r ≡ position (λ t. bytes_eq name (text_at key.Name t)) (map view (take i vs))
-    → name ≡ other
-    → (position (λ t. bytes_eq other (text_at key.Name t)) (take i (map view vs)) ≡ r) × (is_some r ≡ has_name (take i (map view vs)) other)
-named_before vs i name other r found same =
-    let P : List Data → List ℕ → Option ℕ = λ ts n. position (λ t. bytes_eq n (text_at key.Name t)) ts in
-    let at : P (take i (map view vs)) other ≡ r = sym (found ∙ ap (λ ts. P ts name) (take-view i vs) ∙ ap (P (take i (map view vs))) same) in
-    (at, sym (ap is_some at) ∙ position_any (λ t. bytes_eq other (text_at key.Name t)) (take i (map view vs)))
 
 -- the first of the cables before one that joins its nodes
 pub joined_before : (vs : List Value) (i : ℕ) (a b x y : List ℕ) (r : Option ℕ)

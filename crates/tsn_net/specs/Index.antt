@@ -1,8 +1,15 @@
 -- What an index holds: by hash, where the elements of a list stand.
-use Rattle.std.specs.Prelude.{◌≡◌, ℕ, Bool, cond, ◌&&◌, ◌==◌, List, Some, None, position}
+use Rattle.std.specs.Prelude.{◌≡◌, ℕ, Bool, cond, nat_lt, ◌&&◌, ◌==◌, List, Option, Some, None, position, option_and_then}
+use Rattle.std.specs.Borrow.{Bor}
 use Rattle.std.specs.Option.{option_or}
-use Rattle.indexmap.specs.IndexMap.{IndexMap, get}
+use Rattle.std.specs.Str.{bytes_eq}
+use Rattle.indexmap.specs.IndexMap.{IndexMap, get, get_by}
+use Rattle.indexmap.specs.IndexSet.{IndexSet, contains_by}
+use Rattle.toml.specs.Data.{Data}
 use Rattle.tsn_model.specs.declared.Link.{Link}
+use Rattle.tsn_net.specs.declared.schema.Key.TheVariants as key
+use Rattle.tsn_net.specs.Document.{text_at}
+use Rattle.tsn_net.specs.Conditions.{names_station, names_bridge}
 
 -- n has what m has, and at a key that m lacks, this number
 abbrev pub Enters : {K S : Type 0} → (K → K → Bool) → IndexMap K ℕ S → IndexMap K ℕ S → K → ℕ → Type 0
@@ -11,3 +18,19 @@ Enters {K} eq m n key number = (k : K) → get eq n k ≡ option_or (get eq m k)
 -- by two nodes, the number of the first link from one to the other
 abbrev pub AreLinkNumbers : {S : Type 0} → List Link → IndexMap (ℕ × ℕ) ℕ S → Type 0
 AreLinkNumbers links numbers = (p : ℕ × ℕ) → get (λ x y. x.0 == y.0 && x.1 == y.1) numbers p ≡ position (λ l. l.from == p.0 && l.to == p.1) links
+
+-- by a name, the number of the first table that has it
+abbrev pub AreNameNumbers : {S : Type 0} → List Data → IndexMap (Bor (List ℕ)) ℕ S → Type 0
+AreNameNumbers tables numbers =
+    (name : List ℕ) → get_by (λ k. bytes_eq name k.now) numbers ≡ position (λ t. bytes_eq name (text_at key.Name t)) tables
+
+-- the names of the stations, of the bridges
+abbrev pub AreStations : {S : Type 0} → List Data → IndexSet (Bor (List ℕ)) S → Type 0
+AreStations nodes names = (name : List ℕ) → contains_by (λ k. bytes_eq name k.now) names ≡ names_station nodes name
+
+abbrev pub AreBridges : {S : Type 0} → List Data → IndexSet (Bor (List ℕ)) S → Type 0
+AreBridges nodes names = (name : List ℕ) → contains_by (λ k. bytes_eq name k.now) names ≡ names_bridge nodes name
+
+-- a number that is below an end
+abbrev pub below : ℕ → Option ℕ → Option ℕ
+below end number = option_and_then (λ n. cond (nat_lt n end) (Some n) None) number

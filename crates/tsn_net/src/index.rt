@@ -1,10 +1,15 @@
 //! Where the elements of lists stand, by hash.
-ghost use Rattle.std.specs.Prelude.{◌≡◌, IfOk, OnOk};
-ghost use Rattle.tsn_net.specs.Index.{Enters, AreLinkNumbers};
+ghost use Rattle.std.specs.Prelude.{◌≡◌, map, IfOk, OnOk};
+ghost use Rattle.std.specs.Option.{option_copied};
+ghost use Rattle.toml.specs.View.{view};
+ghost use Rattle.tsn_net.specs.Index.{Enters, AreLinkNumbers, AreNameNumbers, AreStations, AreBridges, below};
 
-use indexmap::IndexMap;
+use crate::document::text_at;
+use crate::schema::{Key, is_bridge, is_station};
+use indexmap::{IndexMap, IndexSet};
 use std::alloc::{AllocError, Global};
 use std::hash::Hash;
+use toml::Value;
 use tsn_model::Link;
 
 // Enters the number of a key; a key that is there keeps its own.
@@ -49,4 +54,60 @@ fn number_links(
         enter(&mut numbers, (link.from, link.to), k)?;
     }
     Ok(numbers)
+}
+
+/// The number of the first of some tables of each name.
+pub(crate) fn number_names<'a>(
+    alloc: Global,
+    tables: &'a [Value],
+) -> Result<IndexMap<&'a str, usize>, AllocError>
+    ensures { IfOk result (λ numbers. AreNameNumbers (map view tables.now) numbers) }
+{
+    let mut numbers = IndexMap::new(alloc);
+    for (k, table) in tables.iter().enumerate() {
+        enter(&mut numbers, text_at(table, Key::Name), k)?;
+    }
+    Ok(numbers)
+}
+
+/// The names of stations.
+pub(crate) fn stations_in<'a>(
+    alloc: Global,
+    nodes: &'a [Value],
+) -> Result<IndexSet<&'a str>, AllocError>
+    ensures { IfOk result (λ names. AreStations (map view nodes.now) names) }
+{
+    let mut names = IndexSet::new(alloc);
+    for node in nodes {
+        if is_station(node) {
+            names.insert(text_at(node, Key::Name))?;
+        }
+    }
+    Ok(names)
+}
+
+/// The names of bridges.
+pub(crate) fn bridges_in<'a>(
+    alloc: Global,
+    nodes: &'a [Value],
+) -> Result<IndexSet<&'a str>, AllocError>
+    ensures { IfOk result (λ names. AreBridges (map view nodes.now) names) }
+{
+    let mut names = IndexSet::new(alloc);
+    for node in nodes {
+        if is_bridge(node) {
+            names.insert(text_at(node, Key::Name))?;
+        }
+    }
+    Ok(names)
+}
+
+/// A number that is below an end.
+pub(crate) fn below(number: Option<&usize>, end: usize) -> Option<usize>
+    ensures { result ≡ below end (option_copied number.entry) }
+{
+    match number {
+        Some(number) => { if *number < end { Some(*number) } else { None } }
+        None => None,
+    }
 }

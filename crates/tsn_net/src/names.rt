@@ -1,15 +1,15 @@
 //! What may be the matter with the names of a document, and with its cables.
 ghost use Rattle.std.specs.Prelude.{◌≡◌, is_some, not, map, option_map, position};
 ghost use Rattle.std.specs.List.{list_all, find};
-ghost use Rattle.std.specs.Str.{bytes_eq};
 ghost use Rattle.toml.specs.View.{view};
-ghost use Rattle.tsn_net.specs.Document.{IsPlace, text_at};
+ghost use Rattle.tsn_net.specs.Document.{IsPlace};
 ghost use Rattle.tsn_net.specs.DocumentView.{document_view, texts_view, routes_view};
 ghost use Rattle.tsn_net.specs.Conditions.{has_name, joins, names_along};
 ghost use Rattle.tsn_net.specs.Matter.{Finds};
 
 use crate::document::{Document, text, text_at, texts_of};
 use crate::fault::{Code, Place};
+use crate::index::below;
 use crate::matter::Matter;
 use crate::routes::routes_of;
 use crate::schema::Key;
@@ -24,14 +24,14 @@ impl<'a> Document<'a> {
         match place {
             Place::Node(n) => {
                 let name = text_at(self.value_at(place), Key::Name);
-                match number_named(&self.nodes[..n], name) {
+                match below(self.node_numbers.get(name), n) {
                     Some(number) => Some(Matter::TakenName(number)),
                     None => None,
                 }
             }
             Place::Stream(i) => {
                 let name = text_at(self.value_at(place), Key::Name);
-                match number_named(&self.streams[..i], name) {
+                match below(self.stream_numbers.get(name), i) {
                     Some(number) => Some(Matter::TakenName(number)),
                     None => None,
                 }
@@ -49,17 +49,17 @@ impl<'a> Document<'a> {
             Place::Cable(_) => {
                 let cable = self.value_at(place);
                 let a = text_at(cable, Key::A);
-                if !has_name(self.nodes, a) {
+                if !has_name(self, a) {
                     return Some(Matter::NoNode(a));
                 }
                 let b = text_at(cable, Key::B);
-                if has_name(self.nodes, b) {
+                if has_name(self, b) {
                     None
                 } else {
                     Some(Matter::NoNode(b))
                 }
             }
-            Place::Stream(_) => match unknown_along(self.nodes, routes_of(self.value_at(place))) {
+            Place::Stream(_) => match unknown_along(self, routes_of(self.value_at(place))) {
                 Some(name) => Some(Matter::NoNode(name)),
                 None => None,
             },
@@ -90,10 +90,11 @@ impl<'a> Document<'a> {
     }
 }
 
-pub(crate) fn has_name(tables: &[Value], name: &str) -> bool
-    ensures { result ≡ has_name (map view tables.now) name.now }
+// Whether one of the nodes has this name.
+fn has_name(document: &Document<'_>, name: &str) -> bool
+    ensures { result ≡ has_name (map view document.now.nodes.now) name.now }
 {
-    tables.iter().any(|table| name == text_at(table, Key::Name))
+    document.node_numbers.contains_key(name)
 }
 
 /// Whether a cable joins these two nodes, in either direction.
@@ -105,36 +106,27 @@ pub(crate) fn joins(x: &str, y: &str, cable: &Value) -> bool
     (a == x && b == y) || (a == y && b == x)
 }
 
-fn unknown_in<'a>(tables: &[Value], names: &'a [Value]) -> Option<&'a str>
-    ensures first { option_map (λ name. name.now) result ≡ find (λ n. not (has_name (map view tables.now) n)) (texts_view names.now) }
-    ensures found { is_some result ≡ not (list_all (has_name (map view tables.now)) (texts_view names.now)) }
+fn unknown_in<'a>(document: &Document<'_>, names: &'a [Value]) -> Option<&'a str>
+    ensures first { option_map (λ name. name.now) result ≡ find (λ n. not (has_name (map view document.now.nodes.now) n)) (texts_view names.now) }
+    ensures found { is_some result ≡ not (list_all (has_name (map view document.now.nodes.now)) (texts_view names.now)) }
 {
-    match names.iter().find(|value| !has_name(tables, text(value))) {
+    match names.iter().find(|value| !has_name(document, text(value))) {
         Some(value) => Some(text(value)),
         None => None,
     }
 }
 
-// The first name along some routes that none of the tables has.
-fn unknown_along<'a>(tables: &[Value], routes: &'a [Value]) -> Option<&'a str>
-    ensures first { option_map (λ name. name.now) result ≡ find (λ n. not (has_name (map view tables.now) n)) (names_along (routes_view routes.now)) }
-    ensures found { is_some result ≡ not (list_all (has_name (map view tables.now)) (names_along (routes_view routes.now))) }
+// The first name along some routes that none of the nodes has.
+fn unknown_along<'a>(document: &Document<'_>, routes: &'a [Value]) -> Option<&'a str>
+    ensures first { option_map (λ name. name.now) result ≡ find (λ n. not (has_name (map view document.now.nodes.now) n)) (names_along (routes_view routes.now)) }
+    ensures found { is_some result ≡ not (list_all (has_name (map view document.now.nodes.now)) (names_along (routes_view routes.now))) }
 {
     for route in routes {
-        if let Some(name) = unknown_in(tables, texts_of(route)) {
+        if let Some(name) = unknown_in(document, texts_of(route)) {
             return Some(name);
         }
     }
     None
-}
-
-// The number of the first of the tables that has this name.
-fn number_named(tables: &[Value], name: &str) -> Option<usize>
-    ensures { result ≡ position (λ t. bytes_eq name.now (text_at Key.Name t)) (map view tables.now) }
-{
-    tables
-        .iter()
-        .position(|table| name == text_at(table, Key::Name))
 }
 
 // The number of the first of the cables that joins these two nodes.

@@ -59,7 +59,9 @@ pub fn read_or_refuse(alloc: Global, bytes: &[u8]) -> Result<Problem, Refused>
     ensures accepted { IsFaultless bytes.now → IfErr result (λ refused. refused.fault ≡ out_of_memory) }
 {
     let top = Value::Table(parse(alloc, bytes)?);
-    let document = Document::of(&top);
+    let Ok(document) = Document::of(alloc, &top) else {
+        return Err(Refused::memory());
+    };
     if let Some(amiss) = document.amiss() {
         return Err(Refused {
             fault: amiss.fault(),

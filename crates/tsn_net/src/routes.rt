@@ -13,7 +13,7 @@ use crate::document::{Document, elements_at, number_at, text, text_at, texts_of}
 use crate::fault::{Code, Place};
 use crate::matter::{End, Matter};
 use crate::names::joins;
-use crate::schema::{Key, has_routes, is_bridge, is_station};
+use crate::schema::{Key, has_routes};
 use crate::steps::{Step, given_again, other_talker, second_entry, talker_of};
 use std::slice;
 use toml::Value;
@@ -25,7 +25,7 @@ impl<'a> Document<'a> {
         ensures { Finds Code.BadRoute (document_view self.now) place result }
     {
         match place {
-            Place::Stream(_) => routes_amiss(self.nodes, routes_of(self.value_at(place))),
+            Place::Stream(_) => routes_amiss(self, routes_of(self.value_at(place))),
             _ => None,
         }
     }
@@ -130,19 +130,17 @@ pub(crate) fn routes_of(stream: &Value) -> &[Value]
 }
 
 // Whether the node of this name is a station.
-fn names_station(nodes: &[Value], name: &str) -> bool
-    ensures { result ≡ names_station (map view nodes.now) name.now }
+fn names_station(document: &Document<'_>, name: &str) -> bool
+    ensures { result ≡ names_station (map view document.now.nodes.now) name.now }
 {
-    nodes.iter().any(|node| text_at(node, Key::Name) == name && is_station(node))
+    document.stations.contains(name)
 }
 
 /// Whether the node of this name is a bridge.
-pub(crate) fn names_bridge(nodes: &[Value], name: &str) -> bool
-    ensures { result ≡ names_bridge (map view nodes.now) name.now }
+pub(crate) fn names_bridge(document: &Document<'_>, name: &str) -> bool
+    ensures { result ≡ names_bridge (map view document.now.nodes.now) name.now }
 {
-    nodes
-        .iter()
-        .any(|node| text_at(node, Key::Name) == name && is_bridge(node))
+    document.bridges.contains(name)
 }
 
 // The names of a route without its ends.
@@ -153,11 +151,14 @@ fn inner(route: &[Value]) -> &[Value]
     &route[1..route.len() - 1]
 }
 
-fn no_bridge_in<'a>(nodes: &[Value], names: &'a [Value]) -> Option<&'a str>
-    ensures first { option_map (λ name. name.now) result ≡ find (λ n. not (names_bridge (map view nodes.now) n)) (texts_view names.now) }
-    ensures found { is_some result ≡ not (list_all (names_bridge (map view nodes.now)) (texts_view names.now)) }
+fn no_bridge_in<'a>(document: &Document<'_>, names: &'a [Value]) -> Option<&'a str>
+    ensures first { option_map (λ name. name.now) result ≡ find (λ n. not (names_bridge (map view document.now.nodes.now) n)) (texts_view names.now) }
+    ensures found { is_some result ≡ not (list_all (names_bridge (map view document.now.nodes.now)) (texts_view names.now)) }
 {
-    match names.iter().find(|value| !names_bridge(nodes, text(value))) {
+    match names
+        .iter()
+        .find(|value| !names_bridge(document, text(value)))
+    {
         Some(value) => Some(text(value)),
         None => None,
     }
@@ -171,8 +172,8 @@ fn number_of_text(texts: &[Value], wanted: &str) -> Option<usize>
 }
 
 // What is the matter with a route that doesn't run from a station over bridges to a station, or has a node twice.
-fn route_amiss<'a>(nodes: &[Value], route: &'a [Value]) -> Option<Matter<'a>>
-    ensures { FindsRoute (map view nodes.now) (texts_view route.now) result }
+fn route_amiss<'a>(document: &Document<'_>, route: &'a [Value]) -> Option<Matter<'a>>
+    ensures { FindsRoute (map view document.now.nodes.now) (texts_view route.now) result }
 {
     let count = route.len();
     if count < 2 {
@@ -182,14 +183,14 @@ fn route_amiss<'a>(nodes: &[Value], route: &'a [Value]) -> Option<Matter<'a>>
         return Some(matter);
     }
     let first = text(&route[0]);
-    if !names_station(nodes, first) {
+    if !names_station(document, first) {
         return Some(Matter::NoStation(first, End::First));
     }
     let last = text(&route[count - 1]);
-    if !names_station(nodes, last) {
+    if !names_station(document, last) {
         return Some(Matter::NoStation(last, End::Last));
     }
-    match no_bridge_in(nodes, inner(route)) {
+    match no_bridge_in(document, inner(route)) {
         Some(name) => Some(Matter::NoBridge(name)),
         None => None,
     }
@@ -212,11 +213,11 @@ fn repeated(names: &[Value]) -> Option<Matter<'_>>
 }
 
 // What is the matter with the first of some routes that is none by itself.
-fn no_way_in<'a>(nodes: &[Value], routes: &'a [Value]) -> Option<Matter<'a>>
-    ensures { FindsNoWay (map view nodes.now) (routes_view routes.now) result }
+fn no_way_in<'a>(document: &Document<'_>, routes: &'a [Value]) -> Option<Matter<'a>>
+    ensures { FindsNoWay (map view document.now.nodes.now) (routes_view routes.now) result }
 {
     for route in routes {
-        if let Some(matter) = route_amiss(nodes, texts_of(route)) {
+        if let Some(matter) = route_amiss(document, texts_of(route)) {
             return Some(matter);
         }
     }
@@ -224,10 +225,10 @@ fn no_way_in<'a>(nodes: &[Value], routes: &'a [Value]) -> Option<Matter<'a>>
 }
 
 // What is the matter with some routes: with one of them, or with all together.
-fn routes_amiss<'a>(nodes: &[Value], routes: &'a [Value]) -> Option<Matter<'a>>
-    ensures { FindsRoutes (map view nodes.now) (routes_view routes.now) result }
+fn routes_amiss<'a>(document: &Document<'_>, routes: &'a [Value]) -> Option<Matter<'a>>
+    ensures { FindsRoutes (map view document.now.nodes.now) (routes_view routes.now) result }
 {
-    if let Some(matter) = no_way_in(nodes, routes) {
+    if let Some(matter) = no_way_in(document, routes) {
         return Some(matter);
     }
     // One route alone, without a name twice, always fits itself.
@@ -237,7 +238,7 @@ fn routes_amiss<'a>(nodes: &[Value], routes: &'a [Value]) -> Option<Matter<'a>>
     if let Some(other) = other_talker(routes) {
         return Some(Matter::OtherTalker(talker_of(routes), other));
     }
-    if let Some(entry) = second_entry(nodes, routes) {
+    if let Some(entry) = second_entry(document, routes) {
         return Some(Matter::SecondEntry(entry.bridge, entry.from, entry.other));
     }
     match given_again(routes) {

@@ -6,7 +6,7 @@ ghost use Rattle.tsn_net.specs.Document.{texts_of};
 ghost use Rattle.tsn_net.specs.DocumentView.{texts_view, routes_view, step_view, steps_view, few_view, entry_view};
 ghost use Rattle.tsn_net.specs.Conditions.{begin_of, talker_of, other_talker, meet, meeting, second_entry, is_step, with_step, neighbours, steps_of, different, few, is_same, given_again};
 
-use crate::document::{text, texts_of};
+use crate::document::{Document, text, texts_of};
 use crate::routes::names_bridge;
 use arrayvec::ArrayVec;
 use toml::Value;
@@ -114,12 +114,12 @@ fn other_way<'a>(steps: &[Step<'a>], step: Step<'_>) -> Option<&'a str>
 }
 
 // The first bridge to which two of the steps lead from different nodes.
-fn meeting<'a>(nodes: &[Value], steps: &[Step<'a>]) -> Option<Entry<'a>>
-    ensures { entry_view result ≡ meeting (map view nodes.now) (steps_view steps.now) }
+fn meeting<'a>(document: &Document<'_>, steps: &[Step<'a>]) -> Option<Entry<'a>>
+    ensures { entry_view result ≡ meeting (map view document.now.nodes.now) (steps_view steps.now) }
 {
     for k in 0..steps.len() {
         let step = steps[k];
-        if names_bridge(nodes, step.to) {
+        if names_bridge(document, step.to) {
             if let Some(other) = other_way(&steps[k + 1..], step) {
                 return Some(Entry {
                     bridge: step.to,
@@ -133,11 +133,11 @@ fn meeting<'a>(nodes: &[Value], steps: &[Step<'a>]) -> Option<Entry<'a>>
 }
 
 /// The first bridge that two routes enter from different nodes.
-pub(crate) fn second_entry<'a>(nodes: &[Value], routes: &'a [Value]) -> Option<Entry<'a>>
-    ensures { entry_view result ≡ second_entry (map view nodes.now) (routes_view routes.now) }
+pub(crate) fn second_entry<'a>(document: &Document<'_>, routes: &'a [Value]) -> Option<Entry<'a>>
+    ensures { entry_view result ≡ second_entry (map view document.now.nodes.now) (routes_view routes.now) }
 {
     match different_steps(routes) {
-        Some(steps) => meeting(nodes, steps.as_slice()),
+        Some(steps) => meeting(document, steps.as_slice()),
         None => None,
     }
 }

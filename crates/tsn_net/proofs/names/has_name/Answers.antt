@@ -1,17 +1,14 @@
-use Rattle.std.proofs.Common.{sym, ◌∙◌, rules, tests}
+use Rattle.std.proofs.Common.{map, ap, ◌∙◌}
+use Rattle.std.specs.Prelude.{is_some}
 use Rattle.std.specs.Str.{bytes_eq}
-use Rattle.std.proofs.lemmas.Iterator.{YieldsList-from_slice}
-use Rattle.std.proofs.lemmas.Iterator.Search.{any_from_yields_List}
 use Rattle.toml.specs.Data.{Data}
 use Rattle.toml.specs.View.{view}
-use Rattle.toml.specs.declared.value.Value.{Value}
 use Rattle.tsn_net.specs.declared.schema.Key.TheVariants as key
 use Rattle.tsn_net.specs.Document.{text_at}
-use Rattle.tsn_net.proofs.DocumentLemmas.{list_any-map}
+use Rattle.tsn_net.proofs.MatterLemmas.{position_any}
 use Rattle.tsn_net.proofs.names.has_name.Goals as goal
 
 pub returns : goal.returns
 returns c =
-    let test = λ (t : Data). bytes_eq c.args.name.now (text_at key.Name t) in
-    any_from_yields_List (λ (v : Value). test (view v)) _ _ _ c.any.ensures.ran (YieldsList-from_slice c.args.tables.now cc) (λ x b q k. search (rules, tests))
-    ∙ sym (list_any-map test view c.args.tables.now)
+    c.contains_key.ensures ∙ ap is_some (c.args.document.now.nodes_numbered c.args.name.now)
+    ∙ position_any (λ (t : Data). bytes_eq c.args.name.now (text_at key.Name t)) (map view c.args.document.now.nodes.now)

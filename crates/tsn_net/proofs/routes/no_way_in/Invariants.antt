@@ -8,4 +8,5 @@ use Rattle.tsn_net.proofs.routes.no_way_in.Given as goal
 -- the first of the rest that is no way is that of all
 abbrev pub invariant-loop-route : goal.invariant-loop-route
 invariant-loop-route l =
-    find (is_no_way (map view l.nodes)) (routes_view (drop l.route-index l.routes)) ≡ find (is_no_way (map view l.nodes)) (routes_view l.routes)
+    find (is_no_way (map view l.document.nodes.now)) (routes_view (drop l.route-index l.routes))
+    ≡ find (is_no_way (map view l.document.nodes.now)) (routes_view l.routes)

@@ -13,7 +13,7 @@ use Rattle.tsn_net.proofs.routes.routes_amiss.Goals as goal
 
 pub returns-in-Some : goal.returns-in-Some
 returns-in-Some c =
-    let nodes = map view c.args.nodes.now in
+    let nodes = map view c.args.document.now.nodes.now in
     let routes = routes_view c.args.routes.now in
     let any : list_any (is_no_way nodes) routes ≡ true = sym (found_any (is_no_way nodes) routes) ∙ sym c.in-Some.ensures.0 in (
       sym (ap (λ b. ((b || is_some (other_talker routes)) || is_some (second_entry nodes routes)) || is_some (given_again routes)) any),
@@ -22,7 +22,7 @@ returns-in-Some c =
 
 pub returns-then-routes-eq1 : goal.returns-then-routes-eq1
 returns-then-routes-eq1 c =
-    let nodes = map view c.args.nodes.now in
+    let nodes = map view c.args.document.now.nodes.now in
     let routes = routes_view c.args.routes.now in
     let any : list_any (is_no_way nodes) routes ≡ false =
     sym (found_any (is_no_way nodes) routes) ∙ sym c.no_way_in.ensures.0 ∙ ap is_some c.in_default.is in
@@ -35,7 +35,7 @@ returns-then-routes-eq1 c =
 
 pub returns-in-None : goal.returns-in-None
 returns-in-None c =
-    let nodes = map view c.args.nodes.now in
+    let nodes = map view c.args.document.now.nodes.now in
     let routes = routes_view c.args.routes.now in
     let any : list_any (is_no_way nodes) routes ≡ false =
     sym (found_any (is_no_way nodes) routes) ∙ sym c.no_way_in.ensures.0 ∙ ap is_some c.in_default.is in
