@@ -12,7 +12,7 @@ use Rattle.toml.specs.declared.value.Value.{Value}
 use Rattle.std.specs.Str.{bytes_eq}
 use Rattle.tsn_net.specs.declared.schema.Key.TheVariants as key
 use Rattle.tsn_net.specs.Document.{text_at}
-use Rattle.tsn_net.specs.Conditions.{has_name}
+use Rattle.tsn_net.specs.Conditions.{has_name, joins}
 use Rattle.tsn_net.specs.Index.{below}
 use Rattle.tsn_net.proofs.MatterLemmas.{position_any}
 use Rattle.tsn_net.proofs.ProblemLemmas.{position-map}
@@ -106,6 +106,30 @@ named_before vs i name other r found same =
     let at : P (take i (map view vs)) other ≡ r =
     sym (found ∙ position_before (λ t. bytes_eq name (text_at key.Name t)) (map view vs) i ∙ ap (P (take i (map view vs))) same) in
     (at, sym (ap is_some at) ∙ position_any (λ t. bytes_eq other (text_at key.Name t)) (take i (map view vs)))
+
+-- the first of the cables before one that joins its nodes
+pub joined_before : (vs : List Value) (i : ℕ) (a b x y : List ℕ) (r : Option ℕ)
+    → r ≡ below i (position (joins a b) (map view vs)) → a ≡ x → b ≡ y
+    → (position (joins x y) (take i (map view vs)) ≡ r) × (is_some r ≡ list_any (joins x y) (take i (map view vs)))
+joined_before vs i a b x y r found first second =
+    let at : position (joins x y) (take i (map view vs)) ≡ r =
+    sym (found ∙ position_before (joins a b) (map view vs) i ∙ (λ j. position (joins (first j) (second j)) (take i (map view vs)))) in
+    (at, sym (ap is_some at) ∙ position_any (joins x y) (take i (map view vs)))
+
+swapped : (s t : Bool) → (t && s) ≡ (s && t)
+swapped true true = refl
+swapped true false = refl
+swapped false true = refl
+swapped false false = refl
+
+-- a cable that is entered by its names in one order and in the other
+pub both_orders : (before : Option ℕ) (p q s t : Bool) (k : ℕ)
+    → option_or (option_or before (cond (p && q) (Some k) None)) (cond (t && s) (Some k) None) ≡ option_or before
+    (cond ((p && q) || (s && t)) (Some k) None)
+both_orders (Some n) p q s t k = refl
+both_orders None true true s t k = refl
+both_orders None true false s t k = ap (λ b. cond b (Some k) None) (swapped s t)
+both_orders None false q s t k = ap (λ b. cond b (Some k) None) (swapped s t)
 
 -- the name of a table, entered where a test holds of the table
 pub entered : (before named holds : Bool) → holds ≡ true → cond named true before ≡ (before || (named && holds))

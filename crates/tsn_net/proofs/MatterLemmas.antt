@@ -1,12 +1,12 @@
 -- What a test finds, and whether it finds something.
-use Rattle.std.proofs.Common.{◌≡◌, ℕ, ◌+◌, ◌≤◌, Bool, true, false, not, ◌||◌, ◌&&◌, List, [], ◌∷◌, map, take, position, Option, Some, None, option_map, String, BTreeMap, Global, string_bytes, refl, ap, sym, ◌∙◌, arith}
+use Rattle.std.proofs.Common.{◌≡◌, ℕ, ◌+◌, ◌≤◌, Bool, true, false, not, ◌||◌, ◌&&◌, List, [], ◌∷◌, map, position, Option, Some, None, option_map, String, BTreeMap, Global, string_bytes, refl, ap, sym, ◌∙◌, arith}
 use Rattle.std.specs.Prelude.{is_some, is_none, cond, IfSome, ◌==◌, nat_lt}
 use Rattle.std.proofs.lemmas.Bool.Decides.{nat_tests}
 use Rattle.std.specs.List.{list_any, list_all, find, position_from}
 use Rattle.std.specs.BTreeMap.{keys}
 use Rattle.std.proofs.lemmas.Iterator.Adapters.{position_from-zero}
 use Rattle.toml.specs.Data.{Data, get, as_table}
-use Rattle.toml.specs.View.{view, members_view, table_view}
+use Rattle.toml.specs.View.{members_view, table_view}
 use Rattle.toml.specs.declared.value.Value.{Value}
 use Rattle.std.specs.Str.{bytes_eq}
 use Rattle.tsn_net.specs.declared.schema.Key.{Key}
@@ -19,9 +19,9 @@ use Rattle.tsn_net.specs.declared.fault.Code.TheVariants.{Limit}
 use Rattle.tsn_net.specs.declared.fault.Place.{Place}
 use Rattle.tsn_net.specs.declared.matter.Matter.{Matter}
 use Rattle.tsn_net.specs.declared.matter.Matter.TheVariants as matter
-use Rattle.tsn_net.specs.Conditions.{is_name, joins, routes_of, node_breaks_limit, cable_breaks_limit, stream_breaks_limit, routes_break_limit, is_no_way}
+use Rattle.tsn_net.specs.Conditions.{is_name, routes_of, node_breaks_limit, cable_breaks_limit, stream_breaks_limit, routes_break_limit, is_no_way}
 use Rattle.tsn_net.specs.Matter.{absent_key, amiss_key, other_key, is_in_range, breaks_key_limit, matter_code, IsOfTable, IsOfRoute, IsOfRoutes, IsMatter}
-use Rattle.tsn_net.proofs.DocumentLemmas.{keys_in-table, take-view}
+use Rattle.tsn_net.proofs.DocumentLemmas.{keys_in-table}
 
 cases_found : {A : Type 0} (b : Bool) (x : A) (rest : Option A) (any : Bool) → is_some rest ≡ any → is_some (cond b (Some x) rest) ≡ (b || any)
 cases_found true x rest any h = refl
@@ -140,16 +140,6 @@ amiss-found t d r is found = sym (ap is_some found) ∙ found_any (λ k. holds_a
 
 pub other-found : (t : Table) (d : Data) (r : Option (List ℕ)) → r ≡ other_key t d → is_some r ≡ has_unknown_key t d
 other-found t d r found = ap is_some found ∙ found_any (λ name. not (list_any (λ k. bytes_eq (name_of k) name) (known t d))) (keys_in d)
-
--- the first of the cables before one that joins its nodes
-pub joined_before : (vs : List Value) (i : ℕ) (a b x y : List ℕ) (r : Option ℕ)
-    → r ≡ position (joins a b) (map view (take i vs)) → a ≡ x → b ≡ y
-    → (position (joins x y) (take i (map view vs)) ≡ r) × (is_some r ≡ list_any (joins x y) (take i (map view vs)))
-joined_before vs i a b x y r found first second =
-    let P : List Data → List ℕ → List ℕ → Option ℕ = λ ts m n. position (joins m n) ts in
-    let at : P (take i (map view vs)) x y ≡ r =
-    sym (found ∙ ap (λ ts. P ts a b) (take-view i vs) ∙ ap (λ m. P (take i (map view vs)) m b) first ∙ ap (P (take i (map view vs)) x) second) in
-    (at, sym (ap is_some at) ∙ position_any (joins x y) (take i (map view vs)))
 
 of_table : (d : Document) (p : Place) (m : Matter) → IsOfTable (table_at p) (value_at d p) m → IsMatter d p m
 of_table d p (matter.NoName k text) h = h

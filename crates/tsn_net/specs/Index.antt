@@ -9,7 +9,7 @@ use Rattle.toml.specs.Data.{Data}
 use Rattle.tsn_model.specs.declared.Link.{Link}
 use Rattle.tsn_net.specs.declared.schema.Key.TheVariants as key
 use Rattle.tsn_net.specs.Document.{text_at}
-use Rattle.tsn_net.specs.Conditions.{names_station, names_bridge}
+use Rattle.tsn_net.specs.Conditions.{joins, names_station, names_bridge}
 
 -- n has what m has, and at a key that m lacks, this number
 abbrev pub Enters : {K S : Type 0} → (K → K → Bool) → IndexMap K ℕ S → IndexMap K ℕ S → K → ℕ → Type 0
@@ -30,6 +30,11 @@ AreStations nodes names = (name : List ℕ) → contains_by (λ k. bytes_eq name
 
 abbrev pub AreBridges : {S : Type 0} → List Data → IndexSet (Bor (List ℕ)) S → Type 0
 AreBridges nodes names = (name : List ℕ) → contains_by (λ k. bytes_eq name k.now) names ≡ names_bridge nodes name
+
+-- by the names of two nodes, in either order, the number of the first cable that joins them
+abbrev pub AreCableNumbers : {S : Type 0} → List Data → IndexMap (Bor (List ℕ) × Bor (List ℕ)) ℕ S → Type 0
+AreCableNumbers cables numbers =
+    (x y : List ℕ) → get_by (λ k. bytes_eq x k.0.now && bytes_eq y k.1.now) numbers ≡ position (joins x y) cables
 
 -- a number that is below an end
 abbrev pub below : ℕ → Option ℕ → Option ℕ

@@ -2,7 +2,7 @@
 ghost use Rattle.std.specs.Prelude.{◌≡◌, map, IfOk, OnOk};
 ghost use Rattle.std.specs.Option.{option_copied};
 ghost use Rattle.toml.specs.View.{view};
-ghost use Rattle.tsn_net.specs.Index.{Enters, AreLinkNumbers, AreNameNumbers, AreStations, AreBridges, below};
+ghost use Rattle.tsn_net.specs.Index.{Enters, AreLinkNumbers, AreNameNumbers, AreStations, AreBridges, AreCableNumbers, below};
 
 use crate::document::text_at;
 use crate::schema::{Key, is_bridge, is_station};
@@ -100,6 +100,23 @@ pub(crate) fn bridges_in<'a>(
         }
     }
     Ok(names)
+}
+
+/// The number of the first of some cables that joins two nodes, by their names in either order.
+pub(crate) fn number_cables<'a>(
+    alloc: Global,
+    cables: &'a [Value],
+) -> Result<IndexMap<(&'a str, &'a str), usize>, AllocError>
+    ensures { IfOk result (λ numbers. AreCableNumbers (map view cables.now) numbers) }
+{
+    let mut numbers = IndexMap::new(alloc);
+    for (k, cable) in cables.iter().enumerate() {
+        let a = text_at(cable, Key::A);
+        let b = text_at(cable, Key::B);
+        enter(&mut numbers, (a, b), k)?;
+        enter(&mut numbers, (b, a), k)?;
+    }
+    Ok(numbers)
 }
 
 /// A number that is below an end.

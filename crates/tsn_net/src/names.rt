@@ -1,5 +1,5 @@
 //! What may be the matter with the names of a document, and with its cables.
-ghost use Rattle.std.specs.Prelude.{◌≡◌, is_some, not, map, option_map, position};
+ghost use Rattle.std.specs.Prelude.{◌≡◌, is_some, not, map, option_map};
 ghost use Rattle.std.specs.List.{list_all, find};
 ghost use Rattle.toml.specs.View.{view};
 ghost use Rattle.tsn_net.specs.Document.{IsPlace};
@@ -80,7 +80,7 @@ impl<'a> Document<'a> {
                 if a == b {
                     return Some(Matter::Loop);
                 }
-                match number_joining(&self.cables[..k], a, b) {
+                match below(self.cable_numbers.get(&(a, b)), k) {
                     Some(number) => Some(Matter::TakenCable(number)),
                     None => None,
                 }
@@ -127,11 +127,4 @@ fn unknown_along<'a>(document: &Document<'_>, routes: &'a [Value]) -> Option<&'a
         }
     }
     None
-}
-
-// The number of the first of the cables that joins these two nodes.
-fn number_joining(cables: &[Value], x: &str, y: &str) -> Option<usize>
-    ensures { result ≡ position (joins x.now y.now) (map view cables.now) }
-{
-    cables.iter().position(|cable| joins(x, y, cable))
 }

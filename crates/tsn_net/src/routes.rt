@@ -36,7 +36,7 @@ impl<'a> Document<'a> {
         ensures { Finds Code.NoCable (document_view self.now) place result }
     {
         match place {
-            Place::Stream(_) => match gap_along(self.cables, routes_of(self.value_at(place))) {
+            Place::Stream(_) => match gap_along(self, routes_of(self.value_at(place))) {
                 Some(step) => Some(Matter::NoCable(step)),
                 None => None,
             },
@@ -66,10 +66,10 @@ impl<'a> Document<'a> {
 }
 
 // Whether one of the cables joins these two nodes.
-fn are_joined(cables: &[Value], x: &str, y: &str) -> bool
-    ensures { result ≡ list_any (joins x.now y.now) (map view cables.now) }
+fn are_joined(document: &Document<'_>, x: &str, y: &str) -> bool
+    ensures { result ≡ list_any (joins x.now y.now) (map view document.now.cables.now) }
 {
-    cables.iter().any(|cable| joins(x, y, cable))
+    document.cable_numbers.contains_key(&(x, y))
 }
 
 /// How long an octet takes, in nanoseconds, at a rate in Mb/s.
@@ -248,13 +248,13 @@ fn routes_amiss<'a>(document: &Document<'_>, routes: &'a [Value]) -> Option<Matt
 }
 
 // The first step of a route over no cable.
-fn gap_in<'a>(cables: &[Value], route: &'a [Value]) -> Option<Step<'a>>
-    ensures { one_step_view result ≡ first_gap (map view cables.now) (neighbours (texts_view route.now)) }
+fn gap_in<'a>(document: &Document<'_>, route: &'a [Value]) -> Option<Step<'a>>
+    ensures { one_step_view result ≡ first_gap (map view document.now.cables.now) (neighbours (texts_view route.now)) }
 {
     for k in 1..route.len() {
         let from = text(&route[k - 1]);
         let to = text(&route[k]);
-        if !are_joined(cables, from, to) {
+        if !are_joined(document, from, to) {
             return Some(Step { from, to });
         }
     }
@@ -262,11 +262,11 @@ fn gap_in<'a>(cables: &[Value], route: &'a [Value]) -> Option<Step<'a>>
 }
 
 // The same of some routes.
-fn gap_along<'a>(cables: &[Value], routes: &'a [Value]) -> Option<Step<'a>>
-    ensures { one_step_view result ≡ first_gap (map view cables.now) (steps_of (routes_view routes.now)) }
+fn gap_along<'a>(document: &Document<'_>, routes: &'a [Value]) -> Option<Step<'a>>
+    ensures { one_step_view result ≡ first_gap (map view document.now.cables.now) (steps_of (routes_view routes.now)) }
 {
     for route in routes {
-        if let Some(step) = gap_in(cables, texts_of(route)) {
+        if let Some(step) = gap_in(document, texts_of(route)) {
             return Some(step);
         }
     }

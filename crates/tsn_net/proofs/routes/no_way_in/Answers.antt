@@ -23,6 +23,8 @@ loop-route-preserved c =
     c.route-item.is c.texts_of.ensures c.loop-route.invariant (sym c.route_amiss.ensures.0 ∙ ap is_some c.in_default.is)
 
 pub returns : goal.returns
-returns c =
-    (ap is_some (ends_at (is_no_way (map view c.args.document.now.nodes.now)) c.args.routes.now c.loop-route.route-index
-    _ c.loop-route-test.false c.loop-route.invariant), tt)
+returns c = (
+  ap is_some (ends_at (is_no_way (map view c.args.document.now.nodes.now)) c.args.routes.now c.loop-route.route-index
+      _ c.loop-route-test.false c.loop-route.invariant),
+  tt,
+)
