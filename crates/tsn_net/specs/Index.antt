@@ -1,14 +1,18 @@
 -- What an index holds: by hash, where the elements of a list stand.
-use Rattle.std.specs.Prelude.{◌≡◌, ℕ, Bool, cond, nat_lt, ◌&&◌, ◌==◌, List, Option, Some, None, position, option_and_then}
+use Rattle.std.specs.Prelude.{◌≡◌, ℕ, Bool, cond, nat_lt, ◌&&◌, ◌==◌, ◌<◌, false, List, length, take, slice_index_or, Option, Some, None, position, option_and_then}
 use Rattle.std.specs.Borrow.{Bor}
 use Rattle.std.specs.Option.{option_or}
 use Rattle.std.specs.Str.{bytes_eq}
 use Rattle.indexmap.specs.IndexMap.{IndexMap, get, get_by}
 use Rattle.indexmap.specs.IndexSet.{IndexSet, contains_by}
-use Rattle.toml.specs.Data.{Data}
+use Rattle.std.specs.List.{list_any}
+use Rattle.toml.specs.Data.{Data, table, no_members}
 use Rattle.tsn_model.specs.declared.Link.{Link}
 use Rattle.tsn_net.specs.declared.schema.Key.TheVariants as key
-use Rattle.tsn_net.specs.Document.{text_at}
+use Rattle.tsn_net.specs.declared.fault.Code.{Code}
+use Rattle.tsn_net.specs.declared.fault.Code.TheVariants.{BadSlack}
+use Rattle.tsn_net.specs.Document.{Document, text_at}
+use Rattle.tsn_net.specs.Problem.{HasDistinctNames}
 use Rattle.tsn_net.specs.Conditions.{joins, names_station, names_bridge}
 
 -- n has what m has, and at a key that m lacks, this number
@@ -39,3 +43,17 @@ AreCableNumbers cables numbers =
 -- a number that is below an end
 abbrev pub below : ℕ → Option ℕ → Option ℕ
 below end number = option_and_then (λ n. cond (nat_lt n end) (Some n) None) number
+
+-- no cable joins the nodes of one before it
+abbrev pub HasDistinctCables : List Data → Type 0
+HasDistinctCables cables =
+    (k : ℕ) → k < length cables
+    → let cable = slice_index_or cables k (table no_members) in list_any (joins (text_at key.A cable) (text_at key.B cable)) (take k cables) ≡ false
+
+-- nodes differ by their names, and cables by the nodes that they join
+abbrev pub AreApart : Document → Type 0
+AreApart d = HasDistinctNames d.nodes × HasDistinctCables d.cables
+
+-- they do where the slack is asked for, which is last
+abbrev pub CanAsk : Code → Document → Type 0
+CanAsk code d = code ≡ BadSlack → AreApart d

@@ -4,7 +4,7 @@ ghost use Rattle.std.specs.List.{list_all, find};
 ghost use Rattle.toml.specs.View.{view};
 ghost use Rattle.tsn_net.specs.Document.{IsPlace};
 ghost use Rattle.tsn_net.specs.DocumentView.{document_view, texts_view, routes_view};
-ghost use Rattle.tsn_net.specs.Conditions.{has_name, joins, names_along};
+ghost use Rattle.tsn_net.specs.Conditions.{has_name, names_along};
 ghost use Rattle.tsn_net.specs.Matter.{Finds};
 
 use crate::document::{Document, text, text_at, texts_of};
@@ -95,15 +95,6 @@ fn has_name(document: &Document<'_>, name: &str) -> bool
     ensures { result ≡ has_name (map view document.now.nodes.now) name.now }
 {
     document.node_numbers.contains_key(name)
-}
-
-/// Whether a cable joins these two nodes, in either direction.
-pub(crate) fn joins(x: &str, y: &str, cable: &Value) -> bool
-    ensures { result ≡ joins x.now y.now (view cable.now) }
-{
-    let a = text_at(cable, Key::A);
-    let b = text_at(cable, Key::B);
-    (a == x && b == y) || (a == y && b == x)
 }
 
 fn unknown_in<'a>(document: &Document<'_>, names: &'a [Value]) -> Option<&'a str>

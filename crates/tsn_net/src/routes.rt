@@ -1,18 +1,18 @@
 //! What may be the matter with a route.
-ghost use Rattle.std.specs.Prelude.{◌≡◌, ◌≤◌, ◌&&◌, List, IfSome, is_some, not, nat_le, map, length, option_map, position};
+ghost use Rattle.std.specs.Prelude.{◌≡◌, ◌≤◌, List, IfSome, is_some, not, nat_le, map, length, option_map, position};
 ghost use Rattle.std.specs.List.{list_any, list_all, find};
 ghost use Rattle.std.specs.Str.{bytes_eq};
 ghost use Rattle.toml.specs.Data.{Data};
 ghost use Rattle.toml.specs.View.{view};
-ghost use Rattle.tsn_net.specs.Document.{IsPlace, text_at};
+ghost use Rattle.tsn_net.specs.Document.{IsPlace};
 ghost use Rattle.tsn_net.specs.DocumentView.{document_view, texts_view, routes_view, one_step_view};
 ghost use Rattle.tsn_net.specs.Conditions.{octet_time, delay_over, is_quick, repeats, names_station, names_bridge, inner, routes_of, neighbours, steps_of, followed, inner_steps, joins};
+ghost use Rattle.tsn_net.specs.Index.{AreApart};
 ghost use Rattle.tsn_net.specs.Matter.{Finds, FindsRoute, FindsNoWay, FindsRoutes, IsOfRoute, first_again, first_gap, first_quick, matter_code};
 
-use crate::document::{Document, elements_at, number_at, text, text_at, texts_of};
+use crate::document::{Document, elements_at, number_at, text, texts_of};
 use crate::fault::{Code, Place};
 use crate::matter::{End, Matter};
-use crate::names::joins;
 use crate::schema::{Key, has_routes};
 use crate::steps::{Step, given_again, other_talker, second_entry, talker_of};
 use std::slice;
@@ -46,7 +46,8 @@ impl<'a> Document<'a> {
 
     #[tactic(auto, unfolding(crate::specs::Conditions::bad_slack, crate::specs::Conditions::holds))]
     pub(crate) fn bad_slack(&self, place: Place) -> Option<Matter<'a>>
-        requires { IsPlace (document_view self.now) place }
+        requires is_place { IsPlace (document_view self.now) place }
+        requires apart { AreApart (document_view self.now) }
         ensures { Finds Code.BadSlack (document_view self.now) place result }
     {
         match place {
@@ -55,7 +56,7 @@ impl<'a> Document<'a> {
                 let stream = self.value_at(place);
                 let octets = number_at(stream, Key::Octets);
                 let routes = routes_of(stream);
-                match quick_step(slack, octets, self.nodes, self.cables, routes) {
+                match quick_step(slack, octets, self, routes) {
                     Some(step) => Some(Matter::BadSlack(slack, step)),
                     None => None,
                 }
@@ -93,27 +94,18 @@ fn takes_at_most(slack: u64, octets: u64, cable: &Value, node: &Value) -> bool
     there + number_at(node, Key::Proc) as u128 <= slack as u128
 }
 
-// Whether it is so of the node of this name.
-fn takes_at_most_to(slack: u64, octets: u64, cable: &Value, nodes: &[Value], to: &str) -> bool
-    ensures { result ≡ list_any (λ node. bytes_eq (text_at Key.Name node) to.now && nat_le (delay_over octets (view cable.now) node) slack) (map view nodes.now) }
+// Whether it is so from one node to another, over the cable that joins them.
+fn is_quick(slack: u64, octets: u64, document: &Document<'_>, from: &str, to: &str) -> bool
+    requires { AreApart (document_view document.now) }
+    ensures { result ≡ is_quick slack octets (map view document.now.nodes.now) (map view document.now.cables.now) (from.now, to.now) }
 {
-    nodes.iter().any(|node| text_at(node, Key::Name) == to
-        && takes_at_most(slack, octets, cable, node))
-}
-
-// Whether it is so from one node to another, over a cable that joins them.
-fn is_quick(
-    slack: u64,
-    octets: u64,
-    nodes: &[Value],
-    cables: &[Value],
-    from: &str,
-    to: &str,
-) -> bool
-    ensures { result ≡ is_quick slack octets (map view nodes.now) (map view cables.now) (from.now, to.now) }
-{
-    cables.iter().any(|cable| joins(from, to, cable)
-        && takes_at_most_to(slack, octets, cable, nodes, to))
+    match document.cable_numbers.get(&(from, to)).copied() {
+        Some(k) => match document.node_numbers.get(to).copied() {
+            Some(n) => takes_at_most(slack, octets, &document.cables[k], &document.nodes[n]),
+            None => false,
+        },
+        None => false,
+    }
 }
 
 /// The routes of a stream, each an array of names: those at `routes`, or else the one at `route`.
@@ -278,16 +270,16 @@ fn gap_along<'a>(document: &Document<'_>, routes: &'a [Value]) -> Option<Step<'a
 fn quick_in<'a>(
     slack: u64,
     octets: u64,
-    nodes: &[Value],
-    cables: &[Value],
+    document: &Document<'_>,
     route: &'a [Value],
 ) -> Option<Step<'a>>
-    ensures { one_step_view result ≡ first_quick slack octets (map view nodes.now) (map view cables.now) (followed (texts_view route.now)) }
+    requires { AreApart (document_view document.now) }
+    ensures { one_step_view result ≡ first_quick slack octets (map view document.now.nodes.now) (map view document.now.cables.now) (followed (texts_view route.now)) }
 {
     for k in 2..route.len() {
         let from = text(&route[k - 2]);
         let to = text(&route[k - 1]);
-        if is_quick(slack, octets, nodes, cables, from, to) {
+        if is_quick(slack, octets, document, from, to) {
             return Some(Step { from, to });
         }
     }
@@ -298,17 +290,17 @@ fn quick_in<'a>(
 fn quick_step<'a>(
     slack: u64,
     octets: u64,
-    nodes: &[Value],
-    cables: &[Value],
+    document: &Document<'_>,
     routes: &'a [Value],
 ) -> Option<Step<'a>>
-    ensures { one_step_view result ≡ first_quick slack octets (map view nodes.now) (map view cables.now) (inner_steps (routes_view routes.now)) }
+    requires { AreApart (document_view document.now) }
+    ensures { one_step_view result ≡ first_quick slack octets (map view document.now.nodes.now) (map view document.now.cables.now) (inner_steps (routes_view routes.now)) }
 {
     if slack == 0 {
         return None;
     }
     for route in routes {
-        if let Some(step) = quick_in(slack, octets, nodes, cables, texts_of(route)) {
+        if let Some(step) = quick_in(slack, octets, document, texts_of(route)) {
             return Some(step);
         }
     }

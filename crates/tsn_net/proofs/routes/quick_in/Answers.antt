@@ -8,7 +8,8 @@ use Rattle.tsn_net.proofs.routes.quick_in.Goals as goal
 
 pub returns-then-is_quick : goal.returns-then-is_quick
 returns-then-is_quick c =
-    let first_of = first_quick c.args.slack c.args.octets (map view c.args.nodes.now) (map view c.args.cables.now) in
+    let first_of = first_quick c.args.slack c.args.octets (map view c.args.document.now.nodes.now)
+    (map view c.args.document.now.cables.now) in
     let route = c.args.route.now in
     let k = c.loop-k.k in
     let step = ap first_of (followed-before route k _ _ (omega arith) c.loop-k-test.true c.index-route-k.is c.index-route-k-in-loop-k.is) in
@@ -20,9 +21,11 @@ returns-then-is_quick c =
 
 pub loop-k-preserved : goal.loop-k-preserved
 loop-k-preserved c =
-    let first_of = first_quick c.args.slack c.args.octets (map view c.args.nodes.now) (map view c.args.cables.now) in
+    let first_of = first_quick c.args.slack c.args.octets (map view c.args.document.now.nodes.now)
+    (map view c.args.document.now.cables.now) in
     let k = c.loop-k.k in
-    let step = ap first_of (followed-before c.args.route.now k _ _ (omega arith) c.loop-k-test.true c.index-route-k.is c.index-route-k-in-loop-k.is) in
+    let step = ap first_of
+    (followed-before c.args.route.now k _ _ (omega arith) c.loop-k-test.true c.index-route-k.is c.index-route-k-in-loop-k.is) in
     let first = c.text-from.ensures in
     let second = c.text-to.ensures in
     let next : k + 1 - 2 ≡ k - 1 = omega arith in
@@ -30,5 +33,6 @@ loop-k-preserved c =
 
 pub returns : goal.returns
 returns c =
-    let first_of = first_quick c.args.slack c.args.octets (map view c.args.nodes.now) (map view c.args.cables.now) in
+    let first_of = first_quick c.args.slack c.args.octets (map view c.args.document.now.nodes.now)
+    (map view c.args.document.now.cables.now) in
     sym (ap first_of (followed-past c.args.route.now c.loop-k.k (omega arith) c.loop-k-test.false)) ∙ c.loop-k.invariant

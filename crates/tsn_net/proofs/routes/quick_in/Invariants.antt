@@ -8,7 +8,7 @@ use Rattle.tsn_net.proofs.routes.quick_in.Given as goal
 -- the first quick step of the rest is that of the whole
 abbrev pub invariant-loop-k : goal.invariant-loop-k
 invariant-loop-k l =
-    let nodes = map view l.nodes in
-    let cables = map view l.cables in
+    let nodes = map view l.document.nodes.now in
+    let cables = map view l.document.cables.now in
     first_quick l.slack l.octets nodes cables (followed (drop (l.k - 2) (texts_view l.route)))
     ≡ first_quick l.slack l.octets nodes cables (followed (texts_view l.route))
