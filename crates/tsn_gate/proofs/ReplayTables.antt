@@ -1,5 +1,5 @@
 -- The table of starts, and the rows that it gives.
-use Rattle.std.proofs.Common.{◌≡◌, ℕ, ◌+◌, ◌*◌, ◌<◌, ◌↔◌, List, [], ◌∷◌, ◌++◌, map, take, drop, length, get_or, slice_set, Option, Some, None, All, Contains, refl, sym, ap, ◌∙◌, subst, arith, inl, inr, append-nil, mul-le-mul, eq-eqb, false, not}
+use Rattle.std.proofs.Common.{◌≡◌, ℕ, ◌+◌, ◌*◌, ◌≤◌, ◌<◌, ◌↔◌, List, [], ◌∷◌, ◌++◌, map, take, drop, length, get_or, slice_set, Option, Some, None, All, Contains, refl, sym, ap, ◌∙◌, subst, arith, inl, inr, append-nil, mul-le-mul, eq-eqb, false, not}
 use Rattle.std.specs.List.{flat_map, range_with_len}
 use Rattle.std.proofs.lemmas.Grind.{flat_map-append}
 use Rattle.std.proofs.lemmas.List.{map-append, take_more, take-append-drop, get_or_default, get_or-set_same, get_or-set_other, length-set}
@@ -8,13 +8,12 @@ use Rattle.std.proofs.lemmas.List.Elements.{All-map, All-weaker, All-contains_it
 use Rattle.tsn_model.specs.Network.{Network, IsWellFormed, stream_count, hop_count}
 use Rattle.tsn_model.specs.Timing.{shifts}
 use Rattle.tsn_model.specs.Bridge.{Passage, ScheduledStart, BridgeRun, IsPassage, StartedAt, StartsOnTime, planned}
-use Rattle.tsn_model.proofs.Limits.{hops-le}
 use Rattle.tsn_model.proofs.Lists.{All-flat_map, All-range, All-unmap, range_more}
 use Rattle.tsn_model.proofs.Hops.{passage_cases, same_cycle, cycle_below}
 use Rattle.tsn_gate.specs.declared.trace.Row.{Row}
 use Rattle.tsn_gate.specs.Frames.{frames_of, index_of}
-use Rattle.tsn_gate.proofs.Counting.{index-below, one_index}
-use Rattle.tsn_gate.specs.Rows.{frame_passages, stream_passages, cycle_passages, passages_of, cell_of, row_of, row_passage, is_late, is_late_by, IsTable, IsRow, AreRows}
+use Rattle.tsn_gate.proofs.Counting.{index-below, one_index, cells-few}
+use Rattle.tsn_gate.specs.Rows.{frame_passages, stream_passages, cycle_passages, passages_of, cell_of, row_of, row_passage, is_late, is_late_by, IsWidth, IsTable, IsRow, AreRows}
 
 abbrev pub passage_at : ℕ → ℕ → ℕ → ℕ → Passage
 passage_at cycle stream shift hop = record { stream = stream; shift = shift; cycle = cycle; hop = hop }
@@ -37,25 +36,49 @@ pieces_more f g n =
 
 -- ---- numbers
 
-module _ (network : Network) (formed : IsWellFormed network) (cycles : ℕ) where
-  pub cell_below : (p : Passage) → IsPassage network cycles p → cell_of network p < (p.cycle + 1) * frames_of network * 64
+-- a cell stands in the room of its cycle and those before, which is small
+pub record CellRoom (frame hop width frames : ℕ) : Type 0 where
+  pub inside : frame * width + hop < frames * width
+  pub few : frames * width ≤ 1048576 * 64
+
+pub cell_room : (network : Network) → IsWellFormed network → (width : ℕ) → IsWidth network width → (cycle stream hop frame : ℕ) → cycle < 16
+    → stream < stream_count network → hop < hop_count network stream → frame < (cycle + 1) * frames_of network
+    → CellRoom frame hop width ((cycle + 1) * frames_of network)
+cell_room network formed width wide cycle stream hop frame early counted below inside =
+    let covered = wide.covers stream counted in
+    let room = cycle_below frame ((cycle + 1) * frames_of network) width inside in
+    record {
+      inside = omega arith;
+      few = mul-le-mul (cells-few network formed (cycle + 1) (omega arith)) wide.few;
+    }
+
+module _ (network : Network) (width : ℕ) (wide : IsWidth network width) (cycles : ℕ) where
+  hop_covered : (p : Passage) → IsPassage network cycles p → p.hop < width
+  hop_covered p is =
+      let covered = wide.covers p.stream is.stream in
+      let below = is.hop in
+      omega arith
+
+  pub cell_inside : (p : Passage) → IsPassage network cycles p → cell_of network width p < cycles * frames_of network * width
   unfolding cell_of
-  cell_below p is = grind (arith, hops-le, index-below, cycle_below)
+  cell_inside p is =
+      let hop = hop_covered p is in
+      let index = index-below network p.stream p.shift is.stream is.sent in
+      let later = cycle_below p.cycle cycles (frames_of network) is.cycle in
+      let frame = p.cycle * frames_of network + index_of network p.stream p.shift in
+      let room = cycle_below frame (cycles * frames_of network) width (omega arith) in
+      omega arith
 
-  pub cell_inside : (p : Passage) → IsPassage network cycles p → cell_of network p < cycles * frames_of network * 64
-  cell_inside p is = grind (arith, cell_below, mul-le-mul)
-
-  pub cell_once : (p q : Passage) → IsPassage network cycles p → IsPassage network cycles q → cell_of network p ≡ cell_of network q → p ≡ q
+  pub cell_once : (p q : Passage) → IsPassage network cycles p → IsPassage network cycles q → cell_of network width p ≡ cell_of network width q → p ≡ q
   unfolding cell_of
   cell_once p q is_p is_q same =
-      let few_p = hops-le network formed p.stream is_p.stream in
-      let few_q = hops-le network formed q.stream is_q.stream in
       let index_p = index_of network p.stream p.shift in
       let index_q = index_of network q.stream q.shift in
       let below_p : index_p < frames_of network = index-below network p.stream p.shift is_p.stream is_p.sent in
       let below_q : index_q < frames_of network = index-below network q.stream q.shift is_q.stream is_q.sent in
       let both : p.cycle * frames_of network + index_p ≡ q.cycle * frames_of network + index_q =
-      same_cycle (p.cycle * frames_of network + index_p) (q.cycle * frames_of network + index_q) 64 p.hop q.hop (omega arith) (omega arith) same in
+      same_cycle (p.cycle * frames_of network + index_p) (q.cycle * frames_of network + index_q) width p.hop q.hop (hop_covered p is_p) (hop_covered q is_q) same in
+      let rooms : (p.cycle * frames_of network + index_p) * width ≡ (q.cycle * frames_of network + index_q) * width = ap (λ n. n * width) both in
       let hop : p.hop ≡ q.hop = omega arith in
       let cycle : p.cycle ≡ q.cycle = same_cycle p.cycle q.cycle (frames_of network) index_p index_q below_p below_q both in
       let product : p.cycle * frames_of network ≡ q.cycle * frames_of network = ap (λ n. n * frames_of network) cycle in
@@ -66,7 +89,7 @@ module _ (network : Network) (formed : IsWellFormed network) (cycles : ℕ) wher
   module _ (starts : List ScheduledStart) (index : ℕ) (begun : ScheduledStart) (below : index < length starts) (is : get_or starts index begun ≡ begun)
       (passages : All (λ (b : ScheduledStart). IsPassage network cycles b.passage) starts)
       (once : (i j : ℕ) (d : ScheduledStart) → i < length starts → j < length starts → (get_or starts i d).passage ≡ (get_or starts j d).passage → (get_or starts i d).time ≡ (get_or starts j d).time)
-      (table : List (Option ℕ)) (before : IsTable network cycles (take index starts) table) where
+      (table : List (Option ℕ)) (before : IsTable network width cycles (take index starts) table) where
     begun_passage : IsPassage network cycles begun.passage
     begun_passage = subst (λ (b : ScheduledStart). IsPassage network cycles b.passage) is (passages index begun below)
 
@@ -83,15 +106,15 @@ module _ (network : Network) (formed : IsWellFormed network) (cycles : ℕ) wher
         let same = once at.0 index begun at.1 below (ap (λ (b : ScheduledStart). b.passage) here ∙ sym (ap (λ (b : ScheduledStart). b.passage) is)) in
         sym (ap (λ (b : ScheduledStart). b.time) here) ∙ (same ∙ ap (λ (b : ScheduledStart). b.time) is)
 
-    pub table_more : IsTable network cycles (take (index + 1) starts) (slice_set table (cell_of network begun.passage) (Some begun.time))
+    pub table_more : IsTable network width cycles (take (index + 1) starts) (slice_set table (cell_of network width begun.passage) (Some begun.time))
     table_more = record {
-      count = length-set table (cell_of network begun.passage) (Some begun.time) ∙ before.count;
+      count = length-set table (cell_of network width begun.passage) (Some begun.time) ∙ before.count;
       has = λ p t passage. elim (passage_cases begun.passage p) [
         | inl same ↦
             let inside = cell_inside begun.passage begun_passage in
-            let read : get_or (slice_set table (cell_of network begun.passage) (Some begun.time)) (cell_of network begun.passage) None ≡ Some begun.time =
-            get_or-set_same table (cell_of network begun.passage) (Some begun.time) None (omega arith) in
-            subst (λ q. (get_or (slice_set table (cell_of network begun.passage) (Some begun.time)) (cell_of network q) None ≡ Some t) ↔ Contains (take (index + 1) starts) (record { passage = q; time = t })) same (
+            let read : get_or (slice_set table (cell_of network width begun.passage) (Some begun.time)) (cell_of network width begun.passage) None ≡ Some begun.time =
+            get_or-set_same table (cell_of network width begun.passage) (Some begun.time) None (omega arith) in
+            subst (λ q. (get_or (slice_set table (cell_of network width begun.passage) (Some begun.time)) (cell_of network width q) None ≡ Some t) ↔ Contains (take (index + 1) starts) (record { passage = q; time = t })) same (
               λ some.
                   let both : Some begun.time ≡ Some t = sym read ∙ some in
                   let time : begun.time ≡ t = cc both in
@@ -99,9 +122,9 @@ module _ (network : Network) (formed : IsWellFormed network) (cycles : ℕ) wher
               λ has. read ∙ ap Some (sym (one_time t has)),
             )
         | inr differ ↦
-            let apart : cell_of network p ≡ cell_of network begun.passage → ⊥ = λ same. differ (cell_once begun.passage p begun_passage passage (sym same)) in
-            let read : get_or (slice_set table (cell_of network begun.passage) (Some begun.time)) (cell_of network p) None ≡ get_or table (cell_of network p) None =
-            get_or-set_other table (cell_of network begun.passage) (cell_of network p) (Some begun.time) None apart in (
+            let apart : cell_of network width p ≡ cell_of network width begun.passage → ⊥ = λ same. differ (cell_once begun.passage p begun_passage passage (sym same)) in
+            let read : get_or (slice_set table (cell_of network width begun.passage) (Some begun.time)) (cell_of network width p) None ≡ get_or table (cell_of network width p) None =
+            get_or-set_other table (cell_of network width begun.passage) (cell_of network width p) (Some begun.time) None apart in (
               λ some. subst (λ xs. Contains xs (record { passage = p; time = t })) (sym more)
                   (Contains-append_left (take index starts) (begun ∷ []) (record { passage = p; time = t }) ((before.has p t passage).0 (sym read ∙ some))),
               λ has. read ∙ (before.has p t passage).1
@@ -135,22 +158,22 @@ all_passages network cycles =
     (λ hop hop_since hop_below. record { stream = omega arith; sent = sent; cycle = omega arith; hop = omega arith })))
     (shifts network stream) (All-contains_itself (shifts network stream)))))))
 
-map_back : (network : Network) (offsets : List ℕ) (table : List (Option ℕ)) (passages : List Passage) → map row_passage (map (row_of network offsets table) passages) ≡ passages
+map_back : (network : Network) (offsets : List ℕ) (width : ℕ) (table : List (Option ℕ)) (passages : List Passage) → map row_passage (map (row_of network offsets width table) passages) ≡ passages
 unfolding row_of
-map_back network offsets table [] = refl
-map_back network offsets table (p ∷ passages) = ap (λ ps. p ∷ ps) (map_back network offsets table passages)
+map_back network offsets width table [] = refl
+map_back network offsets width table (p ∷ passages) = ap (λ ps. p ∷ ps) (map_back network offsets width table passages)
 
-is_row : (network : Network) (offsets : List ℕ) (cycles : ℕ) (run : BridgeRun) (table : List (Option ℕ)) → IsTable network cycles run.scheduled table → (p : Passage) → IsPassage network cycles p → IsRow network offsets run (row_of network offsets table p)
+is_row : (network : Network) (offsets : List ℕ) (cycles : ℕ) (run : BridgeRun) (width : ℕ) (table : List (Option ℕ)) → IsTable network width cycles run.scheduled table → (p : Passage) → IsPassage network cycles p → IsRow network offsets run (row_of network offsets width table p)
 unfolding row_of
-is_row network offsets cycles run table is p passage = record { planned_at = refl; started = λ t. is.has p t passage }
+is_row network offsets cycles run width table is p passage = record { planned_at = refl; started = λ t. is.has p t passage }
 
-pub are_rows : (network : Network) (offsets : List ℕ) (cycles : ℕ) (run : BridgeRun) (table : List (Option ℕ)) (rows : List Row) → IsTable network cycles run.scheduled table → rows ≡ map (row_of network offsets table) (passages_of network cycles)
+pub are_rows : (network : Network) (offsets : List ℕ) (cycles : ℕ) (run : BridgeRun) (width : ℕ) (table : List (Option ℕ)) (rows : List Row) → IsTable network width cycles run.scheduled table → rows ≡ map (row_of network offsets width table) (passages_of network cycles)
     → AreRows network offsets cycles run rows
-are_rows network offsets cycles run table rows is same = record {
-  passages = ap (map row_passage) same ∙ map_back network offsets table (passages_of network cycles);
+are_rows network offsets cycles run width table rows is same = record {
+  passages = ap (map row_passage) same ∙ map_back network offsets width table (passages_of network cycles);
   right = subst (All (IsRow network offsets run)) (sym same)
-      (All-map (IsRow network offsets run) (row_of network offsets table) (passages_of network cycles)
-      (All-weaker (IsPassage network cycles) (λ p. IsRow network offsets run (row_of network offsets table p)) (is_row network offsets cycles run table is) (passages_of network cycles) (all_passages network cycles)));
+      (All-map (IsRow network offsets run) (row_of network offsets width table) (passages_of network cycles)
+      (All-weaker (IsPassage network cycles) (λ p. IsRow network offsets run (row_of network offsets width table p)) (is_row network offsets cycles run width table is) (passages_of network cycles) (all_passages network cycles)));
 }
 
 -- a row is of a stream that there is

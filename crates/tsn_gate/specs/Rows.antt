@@ -1,7 +1,7 @@
 -- The rows of a replay's table: the starts of the scheduled frames, planned and actual.
 --     passages_of, AreRows          a row for each cycle, stream, shift and hop, in this order
 --     row_text, table_text          its text
-use Rattle.std.specs.Prelude.{◌≡◌, ℕ, ◌+◌, ◌*◌, ◌≤◌, ◌==◌, Bool, true, not, List, [], ◌∷◌, ◌++◌, map, filter, length, slice_get, slice_index_or, unwrap_or, Contains, codes, All, Option, Some, None, ◌↔◌}
+use Rattle.std.specs.Prelude.{◌≡◌, ℕ, ◌+◌, ◌*◌, ◌≤◌, ◌<◌, ◌==◌, Bool, true, not, List, [], ◌∷◌, ◌++◌, map, filter, length, slice_get, slice_index_or, unwrap_or, Contains, codes, All, Option, Some, None, ◌↔◌}
 use Rattle.std.specs.List.{flat_map, range_with_len}
 use Rattle.std.specs.Fmt.{decimal}
 use Rattle.tsn_model.specs.Network.{Network, IsWellFormed, stream_count, hop_count}
@@ -43,34 +43,40 @@ pub record AreRows (network : Network) (offsets : List ℕ) (cycles : ℕ) (run 
   pub passages : map row_passage rows ≡ passages_of network cycles
   pub right : All (IsRow network offsets run) rows
 
--- where a passage stands in a table with 64 cells for each frame of each cycle
-unfoldable pub cell_of : Network → Passage → ℕ
-cell_of network passage = (passage.cycle * frames_of network + index_of network passage.stream passage.shift) * 64 + passage.hop
+-- no route has more hops than that, and that is no more than a route may have
+pub record IsWidth (network : Network) (width : ℕ) : Type 0 where
+  pub covers : (i : ℕ) → i < stream_count network → hop_count network i ≤ width
+  pub few : width ≤ 64
+
+-- where a passage stands in a table with so many cells for each frame of each cycle
+unfoldable pub cell_of : Network → ℕ → Passage → ℕ
+cell_of network width passage = (passage.cycle * frames_of network + index_of network passage.stream passage.shift) * width + passage.hop
 
 -- the table has the starts of the passages
-pub record IsTable (network : Network) (cycles : ℕ) (starts : List ScheduledStart) (table : List (Option ℕ)) : Type 0 where
-  pub count : length table ≡ cycles * frames_of network * 64
-  pub has : (passage : Passage) (t : ℕ) → IsPassage network cycles passage → (slice_index_or table (cell_of network passage) None ≡ Some t) ↔ Contains starts (record { passage = passage; time = t })
+pub record IsTable (network : Network) (width cycles : ℕ) (starts : List ScheduledStart) (table : List (Option ℕ)) : Type 0 where
+  pub count : length table ≡ cycles * frames_of network * width
+  pub has : (passage : Passage) (t : ℕ) → IsPassage network cycles passage → (slice_index_or table (cell_of network width passage) None ≡ Some t) ↔ Contains starts (record { passage = passage; time = t })
 
 -- the starts of so many cycles can be read in the table, and when they are planned
-pub record AreTimes (network : Network) (offsets firsts : List ℕ) (table : List (Option ℕ)) (cycles : ℕ) : Type 0 where
+pub record AreTimes (network : Network) (offsets firsts : List ℕ) (width : ℕ) (table : List (Option ℕ)) (cycles : ℕ) : Type 0 where
   pub formed : IsWellFormed network
   pub spaced : AreSpaced network
   pub count : length offsets ≡ stream_count network
   pub small : All (λ offset. offset ≤ network.cycle) offsets
   pub placed : AreFirsts network firsts
+  pub wide : IsWidth network width
   pub few : cycles ≤ 16
-  pub cells : length table ≡ cycles * frames_of network * 64
+  pub cells : length table ≡ cycles * frames_of network * width
 
 -- the row of a passage, by the table
-unfoldable pub row_of : Network → List ℕ → List (Option ℕ) → Passage → Row
-row_of network offsets table passage = record {
+unfoldable pub row_of : Network → List ℕ → ℕ → List (Option ℕ) → Passage → Row
+row_of network offsets width table passage = record {
   stream = passage.stream;
   shift = passage.shift;
   cycle = passage.cycle;
   hop = passage.hop;
   planned = planned network offsets passage;
-  actual = slice_index_or table (cell_of network passage) None;
+  actual = slice_index_or table (cell_of network width passage) None;
 }
 
 -- the frame didn't start when it was planned to

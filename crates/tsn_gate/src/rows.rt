@@ -6,7 +6,7 @@ ghost use Rattle.tsn_model.specs.Timing.{shifts, Sends};
 ghost use Rattle.tsn_model.specs.Schedule.{IsValid};
 ghost use Rattle.tsn_model.specs.Bridge.{Passage, ScheduledStart, StartedAt, IsPassage};
 ghost use Rattle.tsn_gate.specs.Frames.{AreSpaced, AreFirsts, frames_of, place_of};
-ghost use Rattle.tsn_gate.specs.Rows.{frame_passages, stream_passages, cycle_passages, passages_of, cell_of, row_of, AreTimes, IsTable, AreRows};
+ghost use Rattle.tsn_gate.specs.Rows.{frame_passages, stream_passages, cycle_passages, passages_of, cell_of, row_of, IsWidth, AreTimes, IsTable, AreRows};
 
 use crate::starts::{Started, Starts};
 use crate::trace::Row;
@@ -14,12 +14,14 @@ use std::alloc::{AllocError, Global};
 use tsn_timing::Timing;
 
 // When the frames of so many cycles start: as the timing and the offsets plan it, and in the replay, by cycle, stream, shift and
-// hop. By stream it tells where the first of its frames stands among those of a cycle, and behind them how many these are.
+// hop, in as many cells a frame as the width. By stream it tells where the first of its frames stands among those of a cycle,
+// and behind them how many these are.
 #[derive(Clone, Copy)]
 struct StartTimes<'a> {
     timing: &'a Timing,
     offsets: &'a [u64],
     firsts: &'a [usize],
+    width: usize,
     table: &'a [Option<u64>],
     cycles: usize,
 }
@@ -41,11 +43,13 @@ pub fn rows_of(
     // The network is within its limits.
     let _limits = timing.cycle();
     let firsts = firsts_of(alloc, timing)?;
-    let table = table_of(alloc, timing, &firsts, cycles, starts.scheduled())?;
+    let width = width_of(timing);
+    let table = table_of(alloc, timing, &firsts, width, cycles, starts.scheduled())?;
     let times = StartTimes {
         timing,
         offsets,
         firsts: &firsts,
+        width,
         table: &table,
         cycles,
     };
@@ -53,8 +57,8 @@ pub fn rows_of(
 }
 
 fn rows_by(alloc: Global, times: StartTimes<'_>) -> Result<Vec<Row>, AllocError>
-    requires { AreTimes times.timing.now times.offsets.now times.firsts.now times.table.now times.cycles }
-    ensures { IfOk result (λ rows. rows.items ≡ map (row_of times.entry.timing.now times.entry.offsets.now times.entry.table.now) (passages_of times.entry.timing.now times.entry.cycles)) }
+    requires { AreTimes times.timing.now times.offsets.now times.firsts.now times.width times.table.now times.cycles }
+    ensures { IfOk result (λ rows. rows.items ≡ map (row_of times.entry.timing.now times.entry.offsets.now times.entry.width times.entry.table.now) (passages_of times.entry.timing.now times.entry.cycles)) }
 {
     let mut rows = Vec::new(alloc);
     for cycle in 0..times.cycles {
@@ -64,9 +68,9 @@ fn rows_by(alloc: Global, times: StartTimes<'_>) -> Result<Vec<Row>, AllocError>
 }
 
 fn push_cycle(rows: &mut Vec<Row>, times: StartTimes<'_>, cycle: usize) -> Result<(), AllocError>
-    requires times { AreTimes times.timing.now times.offsets.now times.firsts.now times.table.now times.cycles }
+    requires times { AreTimes times.timing.now times.offsets.now times.firsts.now times.width times.table.now times.cycles }
     requires cycle { cycle < times.cycles }
-    ensures { IfOk result (λ _. rows.new.items ≡ rows.old.items ++ map (row_of times.entry.timing.now times.entry.offsets.now times.entry.table.now) (cycle_passages times.entry.timing.now cycle)) }
+    ensures { IfOk result (λ _. rows.new.items ≡ rows.old.items ++ map (row_of times.entry.timing.now times.entry.offsets.now times.entry.width times.entry.table.now) (cycle_passages times.entry.timing.now cycle)) }
 {
     for stream in 0..times.timing.streams() {
         push_stream(rows, times, cycle, stream)?;
@@ -80,10 +84,10 @@ fn push_stream(
     cycle: usize,
     stream: usize,
 ) -> Result<(), AllocError>
-    requires times { AreTimes times.timing.now times.offsets.now times.firsts.now times.table.now times.cycles }
+    requires times { AreTimes times.timing.now times.offsets.now times.firsts.now times.width times.table.now times.cycles }
     requires cycle { cycle < times.cycles }
     requires stream { stream < stream_count times.timing.now }
-    ensures { IfOk result (λ _. rows.new.items ≡ rows.old.items ++ map (row_of times.entry.timing.now times.entry.offsets.now times.entry.table.now) (stream_passages times.entry.timing.now cycle stream)) }
+    ensures { IfOk result (λ _. rows.new.items ≡ rows.old.items ++ map (row_of times.entry.timing.now times.entry.offsets.now times.entry.width times.entry.table.now) (stream_passages times.entry.timing.now cycle stream)) }
 {
     for shift in times.timing.shifts(stream) {
         push_frame(rows, times, cycle, stream, *shift)?;
@@ -98,11 +102,11 @@ fn push_frame(
     stream: usize,
     shift: u64,
 ) -> Result<(), AllocError>
-    requires times { AreTimes times.timing.now times.offsets.now times.firsts.now times.table.now times.cycles }
+    requires times { AreTimes times.timing.now times.offsets.now times.firsts.now times.width times.table.now times.cycles }
     requires cycle { cycle < times.cycles }
     requires stream { stream < stream_count times.timing.now }
     requires sent { Sends times.timing.now stream shift }
-    ensures { IfOk result (λ _. rows.new.items ≡ rows.old.items ++ map (row_of times.entry.timing.now times.entry.offsets.now times.entry.table.now) (frame_passages times.entry.timing.now cycle stream shift)) }
+    ensures { IfOk result (λ _. rows.new.items ≡ rows.old.items ++ map (row_of times.entry.timing.now times.entry.offsets.now times.entry.width times.entry.table.now) (frame_passages times.entry.timing.now cycle stream shift)) }
 {
     for hop in 0..times.timing.hops(stream) {
         rows.push(row(times, cycle, stream, shift, hop))?;
@@ -112,14 +116,22 @@ fn push_frame(
 
 #[tactic(auto, unfolding(crate::specs::Rows::row_of, tsn_model::specs::Bridge::planned))]
 fn row(times: StartTimes<'_>, cycle: usize, stream: usize, shift: u64, hop: usize) -> Row
-    requires times { AreTimes times.timing.now times.offsets.now times.firsts.now times.table.now times.cycles }
+    requires times { AreTimes times.timing.now times.offsets.now times.firsts.now times.width times.table.now times.cycles }
     requires cycle { cycle < times.cycles }
     requires stream { stream < stream_count times.timing.now }
     requires sent { Sends times.timing.now stream shift }
     requires hop { hop < hop_count times.timing.now stream }
-    ensures { result ≡ row_of times.entry.timing.now times.entry.offsets.now times.entry.table.now (record { stream = stream; shift = shift; cycle = cycle; hop = hop }) }
+    ensures { result ≡ row_of times.entry.timing.now times.entry.offsets.now times.entry.width times.entry.table.now (record { stream = stream; shift = shift; cycle = cycle; hop = hop }) }
 {
-    let cell = cell(times.timing, times.firsts, cycle, stream, shift, hop);
+    let cell = cell(
+        times.timing,
+        times.firsts,
+        times.width,
+        cycle,
+        stream,
+        shift,
+        hop,
+    );
     Row {
         stream,
         shift,
@@ -133,30 +145,33 @@ fn row(times: StartTimes<'_>, cycle: usize, stream: usize, shift: u64, hop: usiz
     }
 }
 
-// The starts by cycle, stream, shift and hop, 64 cells for each frame in each cycle.
+// The starts by cycle, stream, shift and hop, as many cells for each frame in each cycle as the width.
 fn table_of(
     alloc: Global,
     timing: &Timing,
     firsts: &[usize],
+    width: usize,
     cycles: usize,
     starts: &[Started],
 ) -> Result<Vec<Option<u64>>, AllocError>
     requires spaced { AreSpaced timing.now }
     requires firsts { AreFirsts timing.now firsts.now }
+    requires wide { IsWidth timing.now width }
     requires few { cycles ≤ 16 }
     requires passages { All (λ (begun : ScheduledStart). IsPassage timing.now cycles begun.passage) starts.now }
     requires once { (i j : ℕ) (d : ScheduledStart) → i < length starts.now → j < length starts.now → (slice_index_or starts.now i d).passage ≡ (slice_index_or starts.now j d).passage
         → (slice_index_or starts.now i d).time ≡ (slice_index_or starts.now j d).time }
-    ensures { IfOk result (λ table. IsTable timing.now cycles starts.now table.items) }
+    ensures { IfOk result (λ table. IsTable timing.now width cycles starts.now table.items) }
 {
-    // The network is within its limits, so a route has few hops, and a cycle few frames.
+    // The network is within its limits, so a cycle has few frames.
     let _limits = timing.cycle();
     let frames = firsts[timing.streams()];
-    let mut table = vec![in alloc; None; cycles * frames * 64]?;
+    let mut table = vec![in alloc; None; cycles * frames * width]?;
     for started in starts {
         let cell = cell(
             timing,
             firsts,
+            width,
             started.cycle(),
             started.stream(),
             started.shift(),
@@ -167,11 +182,25 @@ fn table_of(
     Ok(table)
 }
 
+// The hops of the longest route.
+fn width_of(timing: &Timing) -> usize
+    ensures { IsWidth timing.now result }
+{
+    // The network is within its limits, so a route has few hops.
+    let _limits = timing.cycle();
+    let mut width = 0;
+    for stream in 0..timing.streams() {
+        width = width.max(timing.hops(stream));
+    }
+    width
+}
+
 // Where a passage stands in the table.
 #[tactic(auto, unfolding(crate::specs::Rows::cell_of))]
 fn cell(
     timing: &Timing,
     firsts: &[usize],
+    width: usize,
     cycle: usize,
     stream: usize,
     shift: u64,
@@ -179,18 +208,20 @@ fn cell(
 ) -> usize
     requires spaced { AreSpaced timing.now }
     requires firsts { AreFirsts timing.now firsts.now }
+    requires wide { IsWidth timing.now width }
     requires stream { stream < stream_count timing.now }
     requires sent { Sends timing.now stream shift }
     requires hop { hop < hop_count timing.now stream }
     requires few { cycle < 16 }
-    ensures value { result ≡ cell_of timing.now (record { stream = stream; shift = shift; cycle = cycle; hop = hop }) }
-    ensures within { result < (cycle + 1) * frames_of timing.now * 64 }
+    ensures value { result ≡ cell_of timing.now width (record { stream = stream; shift = shift; cycle = cycle; hop = hop }) }
+    ensures within { result < (cycle + 1) * frames_of timing.now * width }
+    ensures small { result < 67_108_864 }
 {
-    // The network is within its limits, so a route has few hops, and a cycle few frames.
+    // The network is within its limits, so a cycle has few frames.
     let _limits = timing.cycle();
     let frames = firsts[timing.streams()];
     let index = firsts[stream] + place_of(timing, stream, shift);
-    (cycle * frames + index) * 64 + hop
+    (cycle * frames + index) * width + hop
 }
 
 // Where a shift stands among those of its stream.

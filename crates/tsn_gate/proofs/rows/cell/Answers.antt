@@ -1,6 +1,6 @@
-use Rattle.std.proofs.Common.{arith}
-use Rattle.tsn_model.proofs.Limits.{hops-le}
+use Rattle.std.proofs.Common.{◌+◌, ◌*◌, get_or, arith}
 use Rattle.tsn_gate.proofs.Counting.{cell_numbers}
+use Rattle.tsn_gate.proofs.ReplayTables.{cell_room}
 use Rattle.tsn_gate.proofs.rows.cell.Goals as goal
 
 pub overflow_add-index : goal.overflow_add-index
@@ -9,7 +9,6 @@ overflow_add-index c =
     let numbers = cell_numbers c.args.timing.now formed c.args.firsts.now c.requires.firsts c.args.cycle c.args.stream c.args.shift c.place_of.result
     c.streams.result
     c.requires.few c.requires.stream c.requires.sent c.place_of.ensures.value c.streams.ensures.value in
-    let few = hops-le c.args.timing.now formed c.args.stream c.requires.stream in
     omega arith
 
 pub overflow_mul-result : goal.overflow_mul-result
@@ -18,7 +17,6 @@ overflow_mul-result c =
     let numbers = cell_numbers c.args.timing.now formed c.args.firsts.now c.requires.firsts c.args.cycle c.args.stream c.args.shift c.place_of.result
     c.streams.result
     c.requires.few c.requires.stream c.requires.sent c.place_of.ensures.value c.streams.ensures.value in
-    let few = hops-le c.args.timing.now formed c.args.stream c.requires.stream in
     omega arith
 
 pub overflow_add-result : goal.overflow_add-result
@@ -27,7 +25,6 @@ overflow_add-result c =
     let numbers = cell_numbers c.args.timing.now formed c.args.firsts.now c.requires.firsts c.args.cycle c.args.stream c.args.shift c.place_of.result
     c.streams.result
     c.requires.few c.requires.stream c.requires.sent c.place_of.ensures.value c.streams.ensures.value in
-    let few = hops-le c.args.timing.now formed c.args.stream c.requires.stream in
     omega arith
 
 pub overflow_mul-result-2 : goal.overflow_mul-result-2
@@ -36,7 +33,8 @@ overflow_mul-result-2 c =
     let numbers = cell_numbers c.args.timing.now formed c.args.firsts.now c.requires.firsts c.args.cycle c.args.stream c.args.shift c.place_of.result
     c.streams.result
     c.requires.few c.requires.stream c.requires.sent c.place_of.ensures.value c.streams.ensures.value in
-    let few = hops-le c.args.timing.now formed c.args.stream c.requires.stream in
+    let frame = c.args.cycle * get_or c.args.firsts.now c.streams.result 0 + (get_or c.args.firsts.now c.args.stream 0 + c.place_of.result) in
+    let room = cell_room c.args.timing.now formed c.args.width c.requires.wide c.args.cycle c.args.stream c.args.hop frame c.requires.few c.requires.stream c.requires.hop (omega arith) in
     omega arith
 
 pub overflow_add-result-2 : goal.overflow_add-result-2
@@ -45,7 +43,8 @@ overflow_add-result-2 c =
     let numbers = cell_numbers c.args.timing.now formed c.args.firsts.now c.requires.firsts c.args.cycle c.args.stream c.args.shift c.place_of.result
     c.streams.result
     c.requires.few c.requires.stream c.requires.sent c.place_of.ensures.value c.streams.ensures.value in
-    let few = hops-le c.args.timing.now formed c.args.stream c.requires.stream in
+    let frame = c.args.cycle * get_or c.args.firsts.now c.streams.result 0 + (get_or c.args.firsts.now c.args.stream 0 + c.place_of.result) in
+    let room = cell_room c.args.timing.now formed c.args.width c.requires.wide c.args.cycle c.args.stream c.args.hop frame c.requires.few c.requires.stream c.requires.hop (omega arith) in
     omega arith
 
 pub returns-clause-within : goal.returns-clause-within
@@ -54,5 +53,16 @@ returns-clause-within c =
     let numbers = cell_numbers c.args.timing.now formed c.args.firsts.now c.requires.firsts c.args.cycle c.args.stream c.args.shift c.place_of.result
     c.streams.result
     c.requires.few c.requires.stream c.requires.sent c.place_of.ensures.value c.streams.ensures.value in
-    let few = hops-le c.args.timing.now formed c.args.stream c.requires.stream in
+    let frame = c.args.cycle * get_or c.args.firsts.now c.streams.result 0 + (get_or c.args.firsts.now c.args.stream 0 + c.place_of.result) in
+    let room = cell_room c.args.timing.now formed c.args.width c.requires.wide c.args.cycle c.args.stream c.args.hop frame c.requires.few c.requires.stream c.requires.hop (omega arith) in
+    omega arith
+
+pub returns-clause-small : goal.returns-clause-small
+returns-clause-small c =
+    let formed = c.cycle-limits.ensures.well_formed in
+    let numbers = cell_numbers c.args.timing.now formed c.args.firsts.now c.requires.firsts c.args.cycle c.args.stream c.args.shift c.place_of.result
+    c.streams.result
+    c.requires.few c.requires.stream c.requires.sent c.place_of.ensures.value c.streams.ensures.value in
+    let frame = c.args.cycle * get_or c.args.firsts.now c.streams.result 0 + (get_or c.args.firsts.now c.args.stream 0 + c.place_of.result) in
+    let room = cell_room c.args.timing.now formed c.args.width c.requires.wide c.args.cycle c.args.stream c.args.hop frame c.requires.few c.requires.stream c.requires.hop (omega arith) in
     omega arith

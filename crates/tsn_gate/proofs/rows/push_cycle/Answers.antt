@@ -6,7 +6,7 @@ use Rattle.tsn_gate.proofs.rows.push_cycle.Goals as goal
 
 pub loop-stream-preserved : goal.loop-stream-preserved
 loop-stream-preserved c =
-    let right = row_of c.args.times.timing.now c.args.times.offsets.now c.args.times.table.now in
+    let right = row_of c.args.times.timing.now c.args.times.offsets.now c.args.times.width c.args.times.table.now in
     record {
       so_far =
           c.in_ok-push_stream.ensures

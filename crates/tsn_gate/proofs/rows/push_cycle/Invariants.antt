@@ -6,6 +6,6 @@ use Rattle.tsn_gate.proofs.rows.push_cycle.Given as goal
 
 abbrev pub invariant-loop-stream : goal.invariant-loop-stream
 invariant-loop-stream l = record {
-  so_far : l.rows.items ≡ l.fn.rows.items ++ map (row_of l.times.timing.now l.times.offsets.now l.times.table.now) (flat_map (stream_passages l.times.timing.now l.cycle) (range_with_len 0 l.stream));
+  so_far : l.rows.items ≡ l.fn.rows.items ++ map (row_of l.times.timing.now l.times.offsets.now l.times.width l.times.table.now) (flat_map (stream_passages l.times.timing.now l.cycle) (range_with_len 0 l.stream));
   last : l.stream-end ≡ stream_count l.times.timing.now;
 }

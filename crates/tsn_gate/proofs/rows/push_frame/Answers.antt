@@ -7,7 +7,7 @@ use Rattle.tsn_gate.proofs.rows.push_frame.Goals as goal
 
 pub loop-hop-preserved : goal.loop-hop-preserved
 loop-hop-preserved c =
-    let right = row_of c.args.times.timing.now c.args.times.offsets.now c.args.times.table.now in
+    let right = row_of c.args.times.timing.now c.args.times.offsets.now c.args.times.width c.args.times.table.now in
     record {
       so_far =
           c.in_ok-push.ensures.items

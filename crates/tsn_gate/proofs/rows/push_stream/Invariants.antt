@@ -6,6 +6,6 @@ use Rattle.tsn_gate.proofs.rows.push_stream.Given as goal
 
 abbrev pub invariant-loop-shift : goal.invariant-loop-shift
 invariant-loop-shift l = record {
-  so_far : l.rows.items ≡ l.fn.rows.items ++ map (row_of l.times.timing.now l.times.offsets.now l.times.table.now)
+  so_far : l.rows.items ≡ l.fn.rows.items ++ map (row_of l.times.timing.now l.times.offsets.now l.times.width l.times.table.now)
       (flat_map (frame_passages l.times.timing.now l.cycle l.stream) (take l.shift-index (shifts l.times.timing.now l.stream)));
 }

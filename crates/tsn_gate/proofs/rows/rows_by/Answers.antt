@@ -7,7 +7,7 @@ use Rattle.tsn_gate.proofs.rows.rows_by.Goals as goal
 
 pub loop-cycle-preserved : goal.loop-cycle-preserved
 loop-cycle-preserved c =
-    let right = row_of c.args.times.timing.now c.args.times.offsets.now c.args.times.table.now in
+    let right = row_of c.args.times.timing.now c.args.times.offsets.now c.args.times.width c.args.times.table.now in
     record {
       so_far =
           c.in_ok-push_cycle.ensures
@@ -20,4 +20,4 @@ pub returns : goal.returns
 returns c =
     let same : c.loop-cycle.cycle ≡ c.args.times.cycles = omega arith in
     c.loop-cycle.invariant.so_far
-    ∙ ap (λ n. map (row_of c.args.times.timing.now c.args.times.offsets.now c.args.times.table.now) (flat_map (cycle_passages c.args.times.timing.now) (range_with_len 0 n))) same
+    ∙ ap (λ n. map (row_of c.args.times.timing.now c.args.times.offsets.now c.args.times.width c.args.times.table.now) (flat_map (cycle_passages c.args.times.timing.now) (range_with_len 0 n))) same

@@ -22,6 +22,7 @@ rows_by-requires c = record {
   count = c.requires.valid.count;
   small = offsets_within c.args.timing.now c.args.offsets.now c.requires.valid;
   placed = subst (AreFirsts c.args.timing.now) (sym c.deref-2.ensures.value) c.in_ok-firsts.ensures;
+  wide = c.width_of-width.ensures;
   few = c.requires.few;
   cells = ap length c.deref-3.ensures.value ∙ c.in_ok-table.ensures.count;
 }
@@ -33,7 +34,7 @@ table_of-requires-clause-once c =
 
 pub returns : goal.returns
 returns c =
-    let table = subst (λ starts. IsTable c.args.timing.now c.args.cycles starts c.in_ok-table.table.items) c.scheduled.ensures c.in_ok-table.ensures in
-    IfOk-weaker c.rows_by.result _ _ (λ rows filled. are_rows c.args.timing.now c.args.offsets.now c.args.cycles c.args.starts.now c.in_ok-table.table.items
-    rows.items table (subst (λ t. rows.items ≡ map (row_of c.args.timing.now c.args.offsets.now t) (passages_of c.args.timing.now c.args.cycles))
+    let table = subst (λ starts. IsTable c.args.timing.now c.width_of-width.result c.args.cycles starts c.in_ok-table.table.items) c.scheduled.ensures c.in_ok-table.ensures in
+    IfOk-weaker c.rows_by.result _ _ (λ rows filled. are_rows c.args.timing.now c.args.offsets.now c.args.cycles c.args.starts.now c.width_of-width.result c.in_ok-table.table.items
+    rows.items table (subst (λ t. rows.items ≡ map (row_of c.args.timing.now c.args.offsets.now c.width_of-width.result t) (passages_of c.args.timing.now c.args.cycles))
     c.deref-3.ensures.value filled)) c.rows_by.ensures
