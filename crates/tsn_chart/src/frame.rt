@@ -50,10 +50,10 @@ fn write_title(canvas: &mut Canvas, sheet: &Sheet<'_>) {
     canvas.words(if streams == 1 { " stream" } else { " streams" });
     canvas.microseconds(", flowspan ", flowspan(sheet));
     canvas.microseconds(" &#181;s, cycle ", sheet.timing.cycle());
-    canvas.number(" &#181;s, ", sheet.rows as u64);
+    canvas.number(" &#181;s, ", sheet.shown.rows() as u64);
     canvas.number(" of ", sheet.lists.len() as u64);
     canvas.words(" links in use");
-    if sheet.rows == 0 {
+    if sheet.shown.rows() == 0 {
         write_why_empty(canvas, sheet);
     }
     canvas.words("</text>\n");
@@ -61,7 +61,7 @@ fn write_title(canvas: &mut Canvas, sheet: &Sheet<'_>) {
 
 // Writes why no link has a row.
 fn write_why_empty(canvas: &mut Canvas, sheet: &Sheet<'_>) {
-    match sheet.shown {
+    match sheet.choice {
         LinkChoice::Link(link) if link < sheet.problem.links() => {
             canvas.number(": no stream uses link ", link as u64);
         }

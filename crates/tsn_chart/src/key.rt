@@ -3,6 +3,7 @@ ghost use Rattle.std.specs.Prelude.{◌≤◌, ◌<◌};
 ghost use Rattle.tsn_model.specs.Network.{stream_count};
 
 use crate::canvas::Canvas;
+use crate::choice::Shown;
 use crate::picture::Sheet;
 use crate::words::letters_in;
 
@@ -29,30 +30,51 @@ const LATEST: u64 = 6500;
 
 // How many lines the table has below its head.
 fn lines_of(streams: usize) -> usize
-    requires { streams ≤ 2048 }
+    requires { streams ≤ 128 }
     ensures some { 1 ≤ result }
-    ensures few { result ≤ 2048 }
+    ensures few { result ≤ 128 }
 {
     (streams / COLUMNS + streams % COLUMNS).max(1)
 }
 
 /// How high the table of the streams is.
-pub fn key_height(streams: usize) -> u64
-    requires { streams ≤ 2048 }
-    ensures { result ≤ 1_000_000 }
+pub fn key_height(shown: &Shown) -> u64
+    ensures { result ≤ 100_000 }
 {
-    700 + lines_of(streams) as u64 * LINE
+    let more = if shown.left_out() == 0 { 0 } else { LINE };
+    700 + lines_of(shown.listed()) as u64 * LINE + more
 }
 
 /// Writes the table of the streams with their colours.
 pub fn write_key(canvas: &mut Canvas, sheet: &Sheet<'_>) {
-    let streams = sheet.timing.streams();
-    for column in 0..streams.min(COLUMNS) {
+    let listed = sheet.shown.listed();
+    for column in 0..listed.min(COLUMNS) {
         write_head(canvas, sheet, column);
     }
-    for stream in 0..streams {
-        write_stream(canvas, sheet, stream);
+    let mut place: usize = 0;
+    for stream in 0..sheet.timing.streams() {
+        if place < listed && sheet.shown.has_stream(stream) {
+            write_stream(canvas, sheet, stream, place);
+            place = place.saturating_add(1);
+        }
     }
+    if sheet.shown.left_out() > 0 {
+        write_more(canvas, sheet);
+    }
+}
+
+// Writes how many more streams there are.
+fn write_more(canvas: &mut Canvas, sheet: &Sheet<'_>) {
+    let lines = lines_of(sheet.shown.listed());
+    let count = sheet.shown.left_out();
+    canvas.begin_text(400, sheet.scale.bottom() + 590 + lines as u64 * LINE);
+    canvas.number(" font-size=\"", FONT);
+    canvas.number("\">and ", count as u64);
+    canvas.words(if count == 1 {
+        " more stream</text>\n"
+    } else {
+        " more streams</text>\n"
+    });
 }
 
 // Writes the head of a column.
@@ -79,14 +101,14 @@ fn write_heading(canvas: &mut Canvas, right: u64, y: u64, words: &str) {
     canvas.words("</text>\n");
 }
 
-// Writes a stream's colour, its name and its numbers.
-fn write_stream(canvas: &mut Canvas, sheet: &Sheet<'_>, stream: usize)
-    requires { stream < stream_count sheet.now.timing.now }
+// Writes a stream's colour, its name and its numbers at this place among those that are listed.
+fn write_stream(canvas: &mut Canvas, sheet: &Sheet<'_>, stream: usize, place: usize)
+    requires stream { stream < stream_count sheet.now.timing.now }
+    requires place { place < 128 }
 {
-    // There are few streams, so the sums are small.
-    let lines = lines_of(sheet.timing.streams());
-    let x = 200 + (stream / lines) as u64 * COLUMN;
-    let y = sheet.scale.bottom() + 480 + (stream % lines) as u64 * LINE;
+    let lines = lines_of(sheet.shown.listed());
+    let x = 200 + (place / lines) as u64 * COLUMN;
+    let y = sheet.scale.bottom() + 480 + (place % lines) as u64 * LINE;
     canvas.begin_rect(x, y, 140, 130);
     canvas.colour(stream);
     canvas.words("\"/>");

@@ -4,7 +4,7 @@ ghost use Rattle.tsn_model.specs.Network.{stream_count};
 ghost use Rattle.tsn_model.specs.Schedule.{IsValid};
 
 use crate::canvas::Canvas;
-use crate::choice::{LinkChoice, is_shown, rows_shown};
+use crate::choice::{LinkChoice, Shown};
 use crate::frame::{write_axis, write_background, write_flowspan, write_head};
 use crate::key::{key_height, write_key};
 use crate::rows::{Line, write_row};
@@ -21,11 +21,10 @@ pub(crate) struct Sheet<'a> {
     pub(crate) timing: &'a Timing,
     pub(crate) offsets: &'a [u64],
     pub(crate) lists: &'a [GateList],
-    pub(crate) shown: LinkChoice,
+    pub(crate) choice: LinkChoice,
+    pub(crate) shown: &'a Shown,
     /// The frames that are marked, each with a link.
     pub(crate) marked: &'a [(Frame, usize)],
-    /// How many lists are shown.
-    pub(crate) rows: usize,
     pub(crate) scale: Scale,
 
     ghost same: { timing.now ≡ problem.now.network },
@@ -79,7 +78,8 @@ pub fn chart(
 /// The schedule as an SVG document: time runs from 0 to `until` nanoseconds, but no further than the cycle, and each list that
 /// is shown has a row with its link's number and the names of the nodes that this joins. A row is shaded by the gates of its
 /// list, and has a bar in the stream's colour for each frame with the gap behind it, with the stream's name where there is
-/// room. A line marks the flowspan. Below stands a table of all streams, with their offsets, arrivals and latest instants.
+/// room. A line marks the flowspan. Below stands a table of the streams, with their offsets, arrivals and latest instants: of
+/// all, or, where there are more than 128, of the first 128 of those with a frame on a link that has a row.
 ///
 /// Names are cut where they are too long, and written so that XML may hold them: a character that it can't hold becomes
 /// U+FFFD.
@@ -118,16 +118,16 @@ pub fn marked_chart(
     requires exist { All (λ list. list.link < length problem.now.network.links) lists.now }
 {
     let timing = problem.timing();
-    let rows = rows_shown(timing, lists, drawing.shown);
-    let scale = Scale::new(drawing.until.min(timing.cycle()), rows);
+    let shown = Shown::of(alloc, timing, lists, drawing.shown)?;
+    let scale = Scale::new(drawing.until.min(timing.cycle()), shown.rows());
     let sheet = Sheet {
         problem,
         timing,
         offsets: valid.offsets(),
         lists,
-        shown: drawing.shown,
+        choice: drawing.shown,
+        shown: &shown,
         marked,
-        rows,
         scale,
     };
     Ok(draw(alloc, &sheet)?)
@@ -135,7 +135,7 @@ pub fn marked_chart(
 
 // The text of the picture.
 fn draw(alloc: Global, sheet: &Sheet<'_>) -> Result<String, AllocError> {
-    let height = sheet.scale.bottom() + key_height(sheet.timing.streams());
+    let height = sheet.scale.bottom() + key_height(sheet.shown);
     let mut canvas = Canvas::new(alloc);
     write_head(&mut canvas, sheet, height);
     write_background(&mut canvas, sheet);
@@ -151,8 +151,7 @@ fn draw(alloc: Global, sheet: &Sheet<'_>) -> Result<String, AllocError> {
 fn write_rows(canvas: &mut Canvas, sheet: &Sheet<'_>) {
     let mut row: usize = 0;
     for number in 0..sheet.lists.len() {
-        let link = sheet.lists[number].link();
-        if is_shown(sheet.timing, sheet.lists, link, sheet.shown) {
+        if sheet.shown.has_row(number) {
             let y = sheet.scale.y(row);
             write_row(canvas, sheet, Line { number, y });
             row = row.saturating_add(1);

@@ -24,7 +24,7 @@ const SCHEDULED: u8 = 0x80;
 pub struct Line {
     pub(crate) number: usize,
     pub(crate) y: u64,
-    ghost low: { y ≤ 400000 },
+    ghost low: { y ≤ 1300000 },
 }
 
 // A frame in a row, and how it is drawn.
@@ -61,12 +61,8 @@ fn write_bars(canvas: &mut Canvas, sheet: &Sheet<'_>, line: Line, is_marked: boo
     requires { line.number < length sheet.now.lists.now }
 {
     let link = sheet.lists[line.number].link();
-    for stream in 0..sheet.timing.streams() {
-        for hop in 0..sheet.timing.hops(stream) {
-            if sheet.timing.route_link(stream, hop) == link {
-                write_frames(canvas, sheet, line, (stream, hop), is_marked);
-            }
-        }
+    for user in sheet.timing.users(link) {
+        write_frames(canvas, sheet, line, (user.stream, user.hop), is_marked);
     }
 }
 

@@ -14,7 +14,7 @@ pub const PAGE: u64 = LEFT + WIDTH + 400;
 pub const TOP: u64 = 960;
 
 // The most rows that are drawn.
-const MOST_ROWS: usize = 1024;
+const MOST_ROWS: usize = 4096;
 
 /// How instants and rows are placed.
 #[derive(Clone, Copy)]
@@ -27,7 +27,7 @@ pub struct Scale {
 
     ghost some: { 1 ≤ until },
     ghost few: { until ≤ 1000000000 },
-    ghost rows_few: { rows ≤ 1024 },
+    ghost rows_few: { rows ≤ 4096 },
     ghost height: { row_height ≤ 300 },
     ghost font_small: { font ≤ 120 },
 }
@@ -86,14 +86,14 @@ impl Scale {
 
     /// The upper edge of a row.
     pub fn y(&self, row: usize) -> u64
-        ensures { result ≤ 400_000 }
+        ensures { result ≤ 1_300_000 }
     {
         TOP + row.min(MOST_ROWS) as u64 * self.row_height
     }
 
     /// The lower edge of the last row.
     pub fn bottom(&self) -> u64
-        ensures { result ≤ 400_000 }
+        ensures { result ≤ 1_300_000 }
     {
         self.y(self.rows)
     }
