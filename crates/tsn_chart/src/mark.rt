@@ -1,5 +1,7 @@
 //! Frames that stand out.
 use crate::picture::Sheet;
+use std::alloc::{AllocError, Global};
+use std::collections::BTreeSet;
 use tsn_model::Frame;
 
 /// How a frame's bar is drawn.
@@ -37,10 +39,21 @@ pub fn look_of(sheet: &Sheet<'_>, frame: Frame, link: usize) -> MarkStyle {
     if sheet.marked.is_empty() {
         return MarkStyle::Plain;
     }
-    for (marked, on) in sheet.marked {
-        if *marked == frame && *on == link {
-            return MarkStyle::Outlined;
-        }
+    if sheet.marked.contains(&(link, frame.stream, frame.shift)) {
+        MarkStyle::Outlined
+    } else {
+        MarkStyle::Pale
     }
-    MarkStyle::Pale
+}
+
+/// The marked frames, each by its link, its stream and its shift.
+pub(crate) fn marks_of(
+    alloc: Global,
+    marked: &[(Frame, usize)],
+) -> Result<BTreeSet<(usize, usize, u64)>, AllocError> {
+    let mut marks = BTreeSet::new(alloc);
+    for (frame, link) in marked {
+        marks.insert((*link, frame.stream, frame.shift))?;
+    }
+    Ok(marks)
 }

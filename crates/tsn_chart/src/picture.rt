@@ -7,9 +7,11 @@ use crate::canvas::Canvas;
 use crate::choice::{LinkChoice, Shown};
 use crate::frame::{write_axis, write_background, write_flowspan, write_head};
 use crate::key::{key_height, write_key};
+use crate::mark::marks_of;
 use crate::rows::{Line, write_row};
 use crate::scale::Scale;
 use std::alloc::{AllocError, Global};
+use std::collections::BTreeSet;
 use tsn_gate::GateList;
 use tsn_model::{Frame, NoMemory};
 use tsn_timing::{Problem, Timing, Valid};
@@ -23,8 +25,8 @@ pub(crate) struct Sheet<'a> {
     pub(crate) lists: &'a [GateList],
     pub(crate) choice: LinkChoice,
     pub(crate) shown: &'a Shown,
-    /// The frames that are marked, each with a link.
-    pub(crate) marked: &'a [(Frame, usize)],
+    /// The frames that are marked, each by its link, its stream and its shift.
+    pub(crate) marked: &'a BTreeSet<(usize, usize, u64)>,
     pub(crate) scale: Scale,
 
     ghost same: { timing.now ≡ problem.now.network },
@@ -119,6 +121,7 @@ pub fn marked_chart(
 {
     let timing = problem.timing();
     let shown = Shown::of(alloc, timing, lists, drawing.shown)?;
+    let marked = marks_of(alloc, marked)?;
     let scale = Scale::new(drawing.until.min(timing.cycle()), shown.rows());
     let sheet = Sheet {
         problem,
@@ -127,7 +130,7 @@ pub fn marked_chart(
         lists,
         choice: drawing.shown,
         shown: &shown,
-        marked,
+        marked: &marked,
         scale,
     };
     Ok(draw(alloc, &sheet)?)
