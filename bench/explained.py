@@ -32,6 +32,8 @@ from check_argument import Checker, Network, frame_of, opposite, order_of, read 
 
 # How many steps, nodes, links, streams of a link and names of a set are told at most.
 MOST_STEPS, MOST_NODES, MOST_LINKS, MOST_STREAMS, MOST_NAMED = 12, 12, 5, 6, 12
+# How many moves are all told, and how many from each end of a step if there are more.
+MOST_MOVES, ENDS = 100, 8
 # How many conflicts may find the argument that is told in place of a large tree.
 MOST_CONFLICTS = 1000
 
@@ -314,19 +316,30 @@ def clash(words, view, fact):
     return f", but all has to be done by {grouped(of[0] if kind == 'done_until' else view.done_high)}"
 
 
+def moves_told(number, moves, needed):
+    """The places of the moves of a step that are told by themselves: by when streams have to arrive is told of all at once."""
+    halves = [((number, 2 * place + 1) in needed, (number, 2 * place + 2) in needed) for place in range(len(moves))]
+    return [place for place, half in enumerate(halves) if half[0] or (half[1] and moves[place][0] != "arrive")]
+
+
 class StepWords:
     """What is said of a step: its parts, between which stands '. Then '."""
 
-    def __init__(self, words, checker, number, needed, target):
+    def __init__(self, words, checker, number, needed, target, is_long):
         self.words, self.checker, self.number, self.needed, self.target = words, checker, number, needed, target
         self.ground, self.clause, self.moves = checker.views[number]
         self.parts, self.limited, self.said = [], [], None
+        told = moves_told(number, [move for _, move, _ in self.moves], needed)
+        self.left_out = told[ENDS : len(told) - ENDS] if is_long else []
 
     def text(self):
         begin = self.begin()
         for place, (view, move, facts) in enumerate(self.moves):
             halves = [(self.number, 2 * place + at) in self.needed for at in (1, 2)]
-            if any(halves):
+            if place in self.left_out[:1]:
+                self.tell_limited(view)
+                self.parts.append(counted(len(self.left_out), "more move follows that isn't", "more moves follow that aren't") + " told")
+            if any(halves) and place not in self.left_out:
                 self.move(view, move, facts, halves)
         view = self.last_view()
         self.tell_limited(view)
@@ -519,9 +532,10 @@ def argument_lines(words, plan, cert, text):
         end = ":" if len(told) <= MOST_STEPS else "."
         yield f"The argument has {counted(len(steps), 'step', 'steps')}{some}{end}"
         if len(told) <= MOST_STEPS:
+            is_long = len(words.network.streams) > 128 and sum(len(moves_told(number, steps[number][1], needed)) for number in told) > MOST_MOVES
             for number in told:
                 is_there = number in checker.views
-                yield StepWords(words, checker, number, needed, target).text() if is_there else f"Step {grouped(number)}: .."
+                yield StepWords(words, checker, number, needed, target, is_long).text() if is_there else f"Step {grouped(number)}: .."
         else:
             until = {"first": target, "least": target - 1, "none": words.network.cycle}[goal]
             yield from busy_lines(words, steps, needed, told, until)

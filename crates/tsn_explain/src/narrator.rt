@@ -11,6 +11,15 @@ use tsn_cert::{Argument, Clause, Fact, Goal, Move, Step};
 use tsn_model::Frame;
 use tsn_text::ListBuilder;
 
+// Of a network of no more streams all moves are told.
+const FEW_STREAMS: usize = 128;
+
+// The most moves of a part that are all told.
+const MOST_MOVES: usize = 100;
+
+// How many moves are told from each end of a step, where there are more.
+const ENDS: usize = 8;
+
 /// Writes the steps of a part as it hears them: what is supposed, the moves that are of the part, and what follows.
 #[derive(Drop)]
 pub struct Narrator<'a, 'b> {
@@ -21,6 +30,11 @@ pub struct Narrator<'a, 'b> {
     pub step: usize,
     // How many moves of it were made.
     count: usize,
+    // How many of its moves are told by themselves, and how many of these were made.
+    moves: usize,
+    passed: usize,
+    // Whether the part has so many that those in the middle of a step are left out.
+    is_long: bool,
     /// The last frames of the streams whose arrival was bounded and isn't told yet.
     pub limited: ListBuilder<Frame>,
     is_begun: bool,
@@ -33,7 +47,9 @@ impl Observer for Narrator<'_, '_> {
 
     fn begin(&mut self, ground: &View<'_>, step: &Step) {
         self.count = 0;
+        self.passed = 0;
         if self.is_told() {
+            self.moves = self.part.moves_told(self.step, step);
             self.push_begin(ground, step.clause.list());
         }
     }
@@ -41,8 +57,9 @@ impl Observer for Narrator<'_, '_> {
     fn make(&mut self, view: &View<'_>, _clauses: &[&Clause], motion: &Move, shown: Shown) {
         let needs_first = self.part.has_first(self.step, self.count);
         let needs_second = self.part.has_second(self.step, self.count);
+        let is_left_out = self.is_left_out(view, motion);
         self.count = self.count.wrapping_add(1);
-        if needs_first || needs_second {
+        if !is_left_out && (needs_first || needs_second) {
             let told = Told {
                 view,
                 shown,
@@ -69,12 +86,16 @@ impl<'a, 'b> Narrator<'a, 'b> {
         part: &'b Part,
     ) -> Narrator<'a, 'b> {
         let limited = ListBuilder::new(writer.alloc);
+        let streams = writer.network.timing.streams();
         Narrator {
             writer,
             argument,
             part,
             step: 0,
             count: 0,
+            moves: 0,
+            passed: 0,
+            is_long: streams > FEW_STREAMS && part.all_told(argument) > MOST_MOVES,
             limited,
             is_begun: false,
             said: None,
@@ -90,6 +111,36 @@ impl<'a, 'b> Narrator<'a, 'b> {
     // Whether the step under way is of the part.
     fn is_told(&self) -> bool {
         self.part.steps.contains(&self.step)
+    }
+
+    // Whether the next move is one of those in the middle of a step that are left out, and of the first of them how many they are.
+    fn is_left_out(&mut self, view: &View<'_>, motion: &Move) -> bool {
+        if !self.is_long || !self.part.is_told(self.step, self.count, motion) {
+            return false;
+        }
+        let place = self.passed;
+        self.passed = place.wrapping_add(1);
+        let last = self.moves.saturating_sub(ENDS);
+        if place < ENDS || place >= last {
+            return false;
+        }
+        if place == ENDS {
+            self.push_left_out(view, last.wrapping_sub(ENDS));
+        }
+        true
+    }
+
+    // Writes how many moves are left out.
+    fn push_left_out(&mut self, view: &View<'_>, count: usize) {
+        let words = if count == 1 {
+            "move follows that isn't"
+        } else {
+            "moves follow that aren't"
+        };
+        let count = Grouped(count as i128);
+        self.push_limited(view);
+        self.push_then();
+        self.writer.say(format_args!("{count} more {words} told"))
     }
 
     // Writes the opposites of the facts of a step, or which schedules it is about.

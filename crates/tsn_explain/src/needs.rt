@@ -5,7 +5,7 @@ ghost use Rattle.std.specs.Prelude.{None};
 use std::alloc::{AllocError, Global};
 use std::collections::{BTreeMap, BTreeSet};
 use tsn_argue::{News, Observer, Reader, Shown, Use, View, hear_argument, read_first, read_second};
-use tsn_cert::{Certificate, Clause, Move, Plan, Step};
+use tsn_cert::{Argument, Certificate, Clause, Move, Plan, Step};
 use tsn_check::CheckFault;
 use tsn_model::NoMemory;
 use tsn_timing::Problem;
@@ -34,6 +34,36 @@ impl Part {
     pub fn has_second(&self, step: usize, number: usize) -> bool {
         let place = number.wrapping_mul(2).wrapping_add(2);
         self.needed.contains(&(step, place))
+    }
+
+    /// Whether a step's move of this number is told by itself: by when streams have to arrive is told of all at once.
+    pub fn is_told(&self, step: usize, number: usize, motion: &Move) -> bool {
+        match motion {
+            Move::Arrive(_) => self.has_first(step, number),
+            _ => self.has_first(step, number) || self.has_second(step, number),
+        }
+    }
+
+    /// How many of the moves of a step are told by themselves.
+    pub fn moves_told(&self, number: usize, step: &Step) -> usize {
+        let mut told: usize = 0;
+        for (place, motion) in step.moves.list().iter().enumerate() {
+            if self.is_told(number, place, motion) {
+                told = told.wrapping_add(1);
+            }
+        }
+        told
+    }
+
+    /// How many moves of all its steps are told by themselves.
+    pub fn all_told(&self, argument: &Argument) -> usize {
+        let mut told: usize = 0;
+        for number in &self.steps {
+            if let Some(step) = argument.steps.list().get(*number) {
+                told = told.wrapping_add(self.moves_told(*number, step));
+            }
+        }
+        told
     }
 }
 

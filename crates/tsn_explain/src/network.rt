@@ -108,11 +108,13 @@ impl<'a> TimedNetwork<'a> {
         }
     }
 
-    /// Whether a stream sends a frame so long after its offset.
+    /// Whether a stream sends a frame so long after its offset, where it sends its frames one after another, as by any schedule.
     pub fn sends(self, stream: usize, wanted: i128) -> bool {
-        self.shifts(stream)
-            .iter()
-            .any(|shift| *shift as i128 == wanted)
+        let shifts = self.shifts(stream);
+        let place = shifts.partition_point(|shift| (*shift as i128) < wanted);
+        shifts
+            .get(place)
+            .is_some_and(|shift| *shift as i128 == wanted)
     }
 
     /// The first link of a stream's route at whose end the last octet of a period arrives last.
