@@ -151,13 +151,19 @@ module _ (effort : Effort) (wanted : Bool) (source : SourceRun) (output : RunOut
       let shows = argument_if_any network effort plan argument wanted (written_in output.second) is by cert in
       inl (tells_plan network plan (length argument.steps) is.found shows.0 shows.1 outcome text shown prints)
   tells network (found.Stopped book known) is by outcome text cert shown (inl prints) =
-      inr (inl (stop_for known, subst (λ o. TellsStop network effort.limit (stop_for known) o) (sym prints.0)
-      (tells_stop network known (length book.history) (inl (book, is, refl)) outcome text cert)))
+      inr (inl (
+        stop_for known,
+        subst (λ o. TellsStop network effort.limit (stop_for known) o) (sym prints.0)
+            (tells_stop network known (length book.history) (inl (book, is, refl)) outcome text cert),
+      ))
   tells network (found.Stopped book known) is by outcome text cert shown (inr cut) =
       absurd (not_cut (string_bytes output.first) (written_in output.second) shown cert cut)
   tells network (found.GaveUp known count) is by outcome text cert shown (inl prints) =
-      inr (inl (stop_for known, subst (λ o. TellsStop network effort.limit (stop_for known) o) (sym prints.0)
-      (tells_stop network known count (inr is) outcome text cert)))
+      inr (inl (
+        stop_for known,
+        subst (λ o. TellsStop network effort.limit (stop_for known) o) (sym prints.0)
+            (tells_stop network known count (inr is) outcome text cert),
+      ))
   tells network (found.GaveUp known count) is by outcome text cert shown (inr cut) =
       absurd (not_cut (string_bytes output.first) (written_in output.second) shown cert cut)
 

@@ -13,9 +13,11 @@ first_amiss-requires c = apart_at (document_view c.args.self.now) c.loop-code.co
 pub returns-in-Some : goal.returns-in-Some
 returns-in-Some c =
     let step = least_fault-drop conditions c.loop-code.code-index NotToml (document_view c.args.self.now) c.loop-code-test.true in
-    let place = c.in-Some.amiss.place in
-    (ap (λ k. Some (record { code = k; place = place })) c.in-Some.ensures.1.0
-    ∙ sym (sym c.loop-code.invariant.rest ∙ step ∙ rw (← c.in-Some.ensures.0)), c.in-Some.ensures.1.1)
+    let place = c.in-Some.amiss.place in (
+      ap (λ k. Some (record { code = k; place = place })) c.in-Some.ensures.1.0
+          ∙ sym (sym c.loop-code.invariant.rest ∙ step ∙ rw (← c.in-Some.ensures.0)),
+      c.in-Some.ensures.1.1,
+    )
 
 pub loop-code-preserved : goal.loop-code-preserved
 loop-code-preserved c =
