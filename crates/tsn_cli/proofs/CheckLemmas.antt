@@ -2,7 +2,7 @@
 use Rattle.std.proofs.Common.{rules, true, false, ◌≡◌, inl, inr, ℕ, List, [], ◌∷◌, Option, Some, Result, Ok, Err, refl, sym, ap, ◌∙◌}
 use Rattle.std.proofs.lemmas.Option.{none-some, same_Some}
 use Rattle.tsn_net.specs.File.{States, HasFault}
-use Rattle.tsn_net.specs.declared.fault.NetFault.{NetFault}
+use Rattle.tsn_fault.specs.declared.fault.NetFault.{NetFault}
 use Rattle.tsn_timing.specs.Problem.{NamedNetwork}
 use Rattle.tsn_net.specs.Conditions.{fault_of}
 use Rattle.tsn_cert.specs.declared.fault.FileFault.{FileFault}
@@ -11,7 +11,7 @@ use Rattle.tsn_cert.specs.Fault.{FaultGiven}
 use Rattle.tsn_cert.specs.declared.plan.Plan.{Plan}
 use Rattle.tsn_cert.specs.Plan.{plan_in}
 use Rattle.tsn_outcome.specs.Run.{GoesOn, Output}
-use Rattle.tsn_outcome.specs.Refusal.{RefusesPlan}
+use Rattle.tsn_cli.specs.Refusal.{RefusesPlan}
 use Rattle.tsn_cli.specs.Check.{CheckAnswers}
 
 stated_has_no_fault : (file : List ℕ) (problem : NamedNetwork) (fault : NetFault) → States file problem → HasFault file fault → ⊥

@@ -7,7 +7,7 @@ use Rattle.tsn_device.specs.declared.device.ReadFault.TheVariants.{Broken, TooLo
 use Rattle.tsn_outcome.specs.Run.{Answers, Command, Failures, GivesFile, GoesOn, IsUnread, NoneFailed, Output, SourceRun, failed_after, failed_before, readings_of, reads_of}
 use Rattle.tsn_outcome.specs.Outcome.{ComesFrom, ComesTo, output_of}
 use Rattle.tsn_outcome.specs.declared.answer.Answer.{Answer}
-use Rattle.tsn_outcome.specs.Refusal.{RefusesNetwork, RefusesPlan}
+use Rattle.tsn_cli.specs.Refusal.{RefusesNetwork, RefusesPlan}
 use Rattle.tsn_outcome.specs.Said.{status_of}
 use Rattle.tsn_net.specs.File.{States}
 use Rattle.tsn_timing.specs.Problem.{NamedNetwork}

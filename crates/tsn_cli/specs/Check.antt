@@ -23,7 +23,7 @@ use Rattle.tsn_outcome.specs.declared.outcome.Outcome.{Outcome}
 use Rattle.tsn_outcome.specs.declared.outcome.Outcome.TheVariants.{AcceptedOptimal, AcceptedFirst, AcceptedNone, RefusedFile, RefusedCert}
 use Rattle.tsn_outcome.specs.Run.{Output, Command}
 use Rattle.tsn_outcome.specs.Outcome.{IsOutcome}
-use Rattle.tsn_outcome.specs.Refusal.{RefusesNetwork, RefusesPlan}
+use Rattle.tsn_cli.specs.Refusal.{RefusesNetwork, RefusesPlan}
 
 -- the certificate file, of any format, is refused
 abbrev pub RefusesCert : List ℕ → Output → Type 0

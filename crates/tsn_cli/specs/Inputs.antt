@@ -15,7 +15,7 @@ use Rattle.tsn_cli.specs.declared.inputs.PlanRead.TheVariants as of_plan
 use Rattle.tsn_cli.specs.declared.inputs.BothRead.{BothRead}
 use Rattle.tsn_cli.specs.declared.inputs.BothRead.TheVariants.{Taken, Refused}
 use Rattle.tsn_outcome.specs.Run.{GivesFile, GivesTooMuch, IsUnread, Reading, SourceRun}
-use Rattle.tsn_outcome.specs.Refusal.{RefusesNetwork, RefusesPlan}
+use Rattle.tsn_cli.specs.Refusal.{RefusesNetwork, RefusesPlan}
 use Rattle.tsn_outcome.specs.Outcome.{TellsFailures, output_of}
 
 -- the source gave a file, of which this was made; or too much

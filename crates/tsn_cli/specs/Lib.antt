@@ -1,3 +1,4 @@
+pub mod Refusal
 pub mod Shown
 pub mod Valid
 pub mod Tables

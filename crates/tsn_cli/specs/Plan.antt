@@ -32,7 +32,7 @@ use Rattle.tsn_outcome.specs.Said.{line_of, status_of}
 use Rattle.tsn_cli.specs.RunOutput.{cert_bytes, HasFormIfAny, IsCut}
 use Rattle.tsn_words.specs.declared.options.Method.TheVariants.{FileOrder}
 use Rattle.tsn_outcome.specs.Outcome.{IsOutcome}
-use Rattle.tsn_outcome.specs.Refusal.{RefusesNetwork}
+use Rattle.tsn_cli.specs.Refusal.{RefusesNetwork}
 
 -- what is answered of a plan that was found, after so many nodes were settled, or by so many steps; of a plan that there is none, as of no schedule
 abbrev pub found_outcome : Plan → ℕ → Outcome

@@ -27,7 +27,7 @@ use Rattle.tsn_outcome.specs.declared.outcome.Outcome.TheVariants.{RefusedPlan}
 use Rattle.tsn_outcome.specs.Run.{Output, Command}
 use Rattle.tsn_outcome.specs.Said.{line_of, settled_of, status_of}
 use Rattle.tsn_outcome.specs.Outcome.{IsOutcome}
-use Rattle.tsn_outcome.specs.Refusal.{RefusesNetwork, RefusesPlan}
+use Rattle.tsn_cli.specs.Refusal.{RefusesNetwork, RefusesPlan}
 
 -- the flowspan of a plan, if it is a schedule
 abbrev pub span_if_any : Plan → Option ℕ

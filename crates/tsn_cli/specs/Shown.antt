@@ -11,7 +11,7 @@ use Rattle.tsn_cli.specs.declared.shown.Shown.TheVariants.{Text, Said}
 use Rattle.tsn_outcome.specs.Run.{Command, Output, SinkRun}
 use Rattle.tsn_outcome.specs.Runs.{IsToldBy}
 use Rattle.tsn_outcome.specs.Outcome.{IsWrittenAs, output_of}
-use Rattle.tsn_outcome.specs.Refusal.{RefusesNetwork}
+use Rattle.tsn_cli.specs.Refusal.{RefusesNetwork}
 
 -- a text that was asked for, or an answer in a line
 abbrev pub shown_output : Result Shown ReadFault → Output

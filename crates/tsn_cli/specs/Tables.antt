@@ -41,7 +41,7 @@ use Rattle.tsn_cli.specs.declared.options.Table.TheVariants.{Gates, Replay, Char
 use Rattle.tsn_outcome.specs.Run.{Output, Command, IsLine}
 use Rattle.tsn_outcome.specs.declared.outcome.Outcome.TheVariants.{RefusedPlan}
 use Rattle.tsn_outcome.specs.Outcome.{IsOutcome}
-use Rattle.tsn_outcome.specs.Refusal.{RefusesNetwork, RefusesPlan}
+use Rattle.tsn_cli.specs.Refusal.{RefusesNetwork, RefusesPlan}
 
 -- the lists in the format that is asked for
 abbrev pub lists_text : GatesOptions → NamedNetwork → List LinkGates → List ℕ

@@ -12,7 +12,7 @@ use Rattle.tsn_outcome.specs.declared.run.TheConstants.{DONE, MEMORY}
 use Rattle.tsn_net.specs.File.{States}
 use Rattle.tsn_timing.specs.Problem.{NamedNetwork}
 use Rattle.tsn_outcome.specs.Outcome.{IsOutcome, EndsAs, outcome_of}
-use Rattle.tsn_outcome.specs.Refusal.{RefusesNetwork}
+use Rattle.tsn_cli.specs.Refusal.{RefusesNetwork}
 use Rattle.tsn_outcome.specs.Run.{Command, SinkRun, SourceRun}
 use Rattle.tsn_outcome.specs.Said.{status_of}
 use Rattle.tsn_outcome.specs.Runs.{IsToldBy, OverNetwork, Says}

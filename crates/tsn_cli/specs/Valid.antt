@@ -8,7 +8,7 @@ use Rattle.tsn_timing.specs.Problem.{NamedNetwork}
 use Rattle.tsn_outcome.specs.declared.outcome.Outcome.TheVariants.{Valid, NotValid}
 use Rattle.tsn_outcome.specs.Run.{Output, Command}
 use Rattle.tsn_outcome.specs.Outcome.{IsOutcome}
-use Rattle.tsn_outcome.specs.Refusal.{RefusesNetwork}
+use Rattle.tsn_cli.specs.Refusal.{RefusesNetwork}
 
 -- the offsets are a valid schedule
 abbrev pub Accepts : Network → List ℕ → Output → Type 0

@@ -7,7 +7,7 @@ use std::alloc::Global;
 use tsn_cert::Plan;
 use tsn_codec::plan_or_refuse;
 use tsn_device::device::{ReadFault, Source, read_all};
-use tsn_net::read_or_refuse;
+use tsn_net::{Refused, read_or_refuse};
 use tsn_outcome::run::MAX_FILE;
 use tsn_outcome::{Answer, FileKind, file_refusal, network_line, refusal};
 use tsn_timing::Problem;
@@ -63,8 +63,8 @@ pub fn read_network<N: Source>(alloc: Global, network: &mut N) -> Result<Network
     match read_or_refuse(alloc, &file) {
         Ok(problem) => Ok(NetworkRead::Taken(problem)),
         Err(refused) => {
-            let fault = refused.fault;
-            let reason = network_line(alloc, network.name(), refused).unwrap_or(None);
+            let Refused { fault, words } = refused;
+            let reason = network_line(alloc, network.name(), words).unwrap_or(None);
             Ok(NetworkRead::Refused(refusal(alloc, fault, reason)?))
         }
     }

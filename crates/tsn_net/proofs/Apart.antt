@@ -4,6 +4,7 @@ use Rattle.std.specs.Prelude.{nat_le, is_some}
 use Rattle.std.specs.List.{list_any}
 use Rattle.std.specs.Str.{bytes_eq}
 use Rattle.std.specs.Cmp.Lexicographic.{nat_list_eq_equiv}
+use Rattle.std.proofs.Math.Bool.{and_comm, and-false, or_comm, or-false}
 use Rattle.std.proofs.lemmas.Bool.{false≢true, and_parts, or_parts, cases_lt, false_from_ne_true}
 use Rattle.std.proofs.lemmas.List.{get_or-take, length-take, get_or-map, length-map}
 use Rattle.std.proofs.lemmas.List.Folds.{list_any_none}
@@ -13,7 +14,7 @@ use Rattle.toml.specs.Data.{Data, table, no_members}
 use Rattle.toml.specs.View.{view}
 use Rattle.toml.specs.declared.value.Value.{Value}
 use Rattle.tsn_net.specs.declared.schema.Key.TheVariants as key
-use Rattle.tsn_net.specs.declared.fault.Code.TheVariants.{NotToml, DuplicateName, DuplicateCable, BadSlack}
+use Rattle.tsn_fault.specs.declared.fault.Code.TheVariants.{NotToml, DuplicateName, DuplicateCable, BadSlack}
 use Rattle.tsn_net.specs.Document.{Document, text_at}
 use Rattle.tsn_net.specs.Conditions.{holds, first_place, conditions, duplicate_name, duplicate_cable, joins, delay_over, is_quick}
 use Rattle.tsn_net.specs.Problem.{HasDistinctNames}
@@ -22,10 +23,6 @@ use Rattle.tsn_net.proofs.Faultless.{IsClear-from_none}
 use Rattle.tsn_net.proofs.Found.{or_cases}
 use Rattle.tsn_net.proofs.MatterLemmas.{position_any}
 use Rattle.tsn_net.proofs.WellFormedDelays.{fails_at}
-
-or_nothing : (b : Bool) → (b || false) ≡ b
-or_nothing true = refl
-or_nothing false = refl
 
 none_passes : {A : Type 0} (p q : A → Bool) (xs : List A) (d : A) → ((j : ℕ) → j < length xs → p (get_or xs j d) ≡ false)
     → list_any (λ x. p x && q x) xs ≡ false
@@ -41,7 +38,7 @@ only_one p q [] i d w passes others = absurd (omega arith)
 only_one p q (x ∷ xs) zero d w passes others =
     let here : p x ≡ true = passes in
     let rest : list_any (λ y. p y && q y) xs ≡ false = none_passes p q xs d (λ j v. others (suc j) (omega arith) (λ e. omega arith)) in
-    rw (here, rest) (or_nothing (q x))
+    rw (here, rest) (or-false (q x))
 only_one p q (x ∷ xs) (suc i) d w passes others =
     let here : p x ≡ false = others 0 (omega arith) (λ e. omega arith) in
     rw here (only_one p q xs i d (omega arith) passes (λ j v apart. others (suc j) (omega arith) (λ e. apart (omega arith))))
@@ -74,18 +71,6 @@ module _ {A : Type 0} (R : A → A → Bool) (symm : (s t : A) → R s t ≡ R t
       let f = position-Some p xs i d at in
       only_one p q xs i d f.0 f.1 (λ j v differ. others_fail i j f.0 v differ f.1)
 
-turned : (a b : Bool) → (a && b) ≡ (b && a)
-turned true true = refl
-turned true false = refl
-turned false true = refl
-turned false false = refl
-
-exchanged : (a b : Bool) → (a || b) ≡ (b || a)
-exchanged true true = refl
-exchanged true false = refl
-exchanged false true = refl
-exchanged false false = refl
-
 -- two nodes have the same name
 abbrev named_alike : Data → Data → Bool
 named_alike s t = bytes_eq (text_at key.Name s) (text_at key.Name t)
@@ -102,7 +87,7 @@ joined_alike-symm s t =
     let e = text_at key.A t in
     let f = text_at key.B t in
     let crossed : (bytes_eq e b && bytes_eq f a) ≡ (bytes_eq a f && bytes_eq b e) =
-    turned (bytes_eq e b) (bytes_eq f a) ∙ (λ j. symm f a j && symm e b j) in
+    and_comm (bytes_eq e b) (bytes_eq f a) ∙ (λ j. symm f a j && symm e b j) in
     λ j. (symm e a j && symm f b j) || crossed j
 
 both_joined : (x y : List ℕ) (s t : Data) → joins x y s ≡ true → joins x y t ≡ true → joined_alike s t ≡ true
@@ -116,7 +101,7 @@ both_joined x y s t first second =
       | inr back ↦
           let parts = and_parts (bytes_eq a y) (bytes_eq b x) back in
           (λ j. joins ((bytes_eq-Decides a y).0 parts.0 j) ((bytes_eq-Decides b x).0 parts.1 j) t)
-          ∙ exchanged (bytes_eq (text_at key.A t) y && bytes_eq (text_at key.B t) x)
+          ∙ or_comm (bytes_eq (text_at key.A t) y && bytes_eq (text_at key.B t) x)
           (bytes_eq (text_at key.A t) x && bytes_eq (text_at key.B t) y) ∙ second
     ]
 
@@ -152,16 +137,13 @@ module _ (slack octets : ℕ) (nodes cables : List Data) (x y : List ℕ) where
       let absent : list_any (joins x y) cables ≡ false = sym (position_any (joins x y) cables) ∙ ap is_some none in
       none_passes (joins x y) ends_quick cables (table no_members) (λ j w. fails_at (joins x y) cables j (table no_members) w absent)
 
-  and_none : (b c : Bool) → c ≡ false → (b && c) ≡ false
-  and_none true c none = none
-  and_none false c none = refl
-
   -- no node
   pub quick_nowhere : position (λ t. bytes_eq y (text_at key.Name t)) nodes ≡ None → is_quick slack octets nodes cables (x, y) ≡ false
   quick_nowhere none =
       list_any_none (λ cable. joins x y cable && ends_quick cable) cables
-      (λ k d w. and_none (joins x y (get_or cables k d)) (ends_quick (get_or cables k d))
-      (none_passes (λ node. bytes_eq (text_at key.Name node) y) (ends (get_or cables k d)) nodes (table no_members) (named_fails none)))
+      (λ k d w. ap (λ b. joins x y (get_or cables k d) && b)
+      (none_passes (λ node. bytes_eq (text_at key.Name node) y) (ends (get_or cables k d)) nodes (table no_members) (named_fails none))
+      ∙ and-false (joins x y (get_or cables k d)))
 
   -- the first cable and the first node decide
   pub quick_between : HasDistinctNames nodes → HasDistinctCables cables → (k n : ℕ) → position (joins x y) cables ≡ Some k

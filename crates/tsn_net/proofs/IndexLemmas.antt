@@ -3,6 +3,7 @@ use Rattle.std.proofs.Common.{◌≡◌, ℕ, zero, suc, ◌+◌, ◌<◌, ◌�
 use Rattle.std.specs.Prelude.{nat_lt, is_some, ◌&&◌}
 use Rattle.std.specs.List.{position_from, list_any}
 use Rattle.std.specs.Option.{option_or}
+use Rattle.std.proofs.Math.Bool.{and_comm, or-false}
 use Rattle.std.proofs.lemmas.List.{take_more, map-append}
 use Rattle.std.proofs.lemmas.List.Folds.{list_any-append}
 use Rattle.std.proofs.lemmas.Iterator.Adapters.{position_from-zero}
@@ -90,11 +91,7 @@ any_table p vs i v r s h is before after =
     after ∙ ap (λ b. b || p (view v)) before
     ∙ sym (ap (list_any p)
     (ap (map view) (take_more vs i v h ∙ ap (λ w. take i vs ++ w ∷ []) (sym is)) ∙ map-append view (take i vs) (v ∷ []))
-    ∙ list_any-append p (map view (take i vs)) (view v ∷ []) ∙ ap (λ b. list_any p (map view (take i vs)) || b) (last (p (view v))))
-  where
-    last : (b : Bool) → (b || false) ≡ b
-    last true = refl
-    last false = refl
+    ∙ list_any-append p (map view (take i vs)) (view v ∷ []) ∙ ap (λ b. list_any p (map view (take i vs)) || b) (or-false (p (view v))))
 
 -- the first of the tables before one that has its name
 pub named_before : (vs : List Value) (i : ℕ) (name other : List ℕ) (r : Option ℕ)
@@ -116,20 +113,14 @@ joined_before vs i a b x y r found first second =
     sym (found ∙ position_before (joins a b) (map view vs) i ∙ (λ j. position (joins (first j) (second j)) (take i (map view vs)))) in
     (at, sym (ap is_some at) ∙ position_any (joins x y) (take i (map view vs)))
 
-swapped : (s t : Bool) → (t && s) ≡ (s && t)
-swapped true true = refl
-swapped true false = refl
-swapped false true = refl
-swapped false false = refl
-
 -- a cable that is entered by its names in one order and in the other
 pub both_orders : (before : Option ℕ) (p q s t : Bool) (k : ℕ)
     → option_or (option_or before (cond (p && q) (Some k) None)) (cond (t && s) (Some k) None) ≡ option_or before
     (cond ((p && q) || (s && t)) (Some k) None)
 both_orders (Some n) p q s t k = refl
 both_orders None true true s t k = refl
-both_orders None true false s t k = ap (λ b. cond b (Some k) None) (swapped s t)
-both_orders None false q s t k = ap (λ b. cond b (Some k) None) (swapped s t)
+both_orders None true false s t k = ap (λ b. cond b (Some k) None) (and_comm t s)
+both_orders None false q s t k = ap (λ b. cond b (Some k) None) (and_comm t s)
 
 -- the name of a table, entered where a test holds of the table
 pub entered : (before named holds : Bool) → holds ≡ true → cond named true before ≡ (before || (named && holds))

@@ -2,7 +2,7 @@
 use Rattle.std.proofs.Common.{◌≡◌, ℕ, ◌+◌, List, Option, Some, drop, position, option_map, refl, ap, sym, ◌∙◌, subst, arith}
 use Rattle.std.specs.Str.{bytes_eq}
 use Rattle.std.proofs.lemmas.Option.{same_Some}
-use Rattle.tsn_net.specs.declared.fault.Place.{Place}
+use Rattle.tsn_fault.specs.declared.fault.Place.{Place}
 use Rattle.tsn_net.specs.declared.schema.Table.TheVariants as tables
 use Rattle.tsn_net.specs.declared.matter.Matter.{Matter}
 use Rattle.tsn_net.specs.declared.matter.Matter.TheVariants as matter

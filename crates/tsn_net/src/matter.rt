@@ -2,10 +2,10 @@
 ghost use Rattle.tsn_net.specs.Matter.{matter_code};
 ghost use Rattle.std.specs.Prelude.{◌≡◌};
 
-use crate::fault::Code;
 use crate::schema::Key;
 use crate::steps::Step;
 use toml::Value;
+use tsn_fault::Code;
 
 /// An end of a route.
 #[derive(Clone, Copy)]

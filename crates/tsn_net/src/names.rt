@@ -8,12 +8,12 @@ ghost use Rattle.tsn_net.specs.Conditions.{has_name, names_along};
 ghost use Rattle.tsn_net.specs.Matter.{Finds};
 
 use crate::document::{Document, text, text_at, texts_of};
-use crate::fault::{Code, Place};
 use crate::index::below;
 use crate::matter::Matter;
 use crate::routes::routes_of;
 use crate::schema::Key;
 use toml::Value;
+use tsn_fault::{Code, Place};
 
 impl<'a> Document<'a> {
     #[tactic(auto, unfolding(crate::specs::Conditions::duplicate_name, crate::specs::Conditions::holds))]

@@ -6,11 +6,11 @@ ghost use Rattle.tsn_net.specs.Document.{document_of};
 ghost use Rattle.tsn_net.specs.File.{Spells, States, HasFault, IsFaultless, out_of_memory};
 
 use crate::document::Document;
-use crate::fault::{Code, NetFault, Place};
 use crate::problem::problem_of;
 use crate::words::{not_toml_words, words_of};
 use std::alloc::Global;
 use toml::{Table, Value};
+use tsn_fault::{Code, NetFault, Place};
 use tsn_timing::Problem;
 
 /// Reads a network file. A fault is the least condition that holds, at the first place where it holds; want of memory

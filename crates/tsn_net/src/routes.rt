@@ -11,12 +11,12 @@ ghost use Rattle.tsn_net.specs.Index.{AreApart};
 ghost use Rattle.tsn_net.specs.Matter.{Finds, FindsRoute, FindsNoWay, FindsRoutes, IsOfRoute, first_again, first_gap, first_quick, matter_code};
 
 use crate::document::{Document, elements_at, number_at, text, texts_of};
-use crate::fault::{Code, Place};
 use crate::matter::{End, Matter};
 use crate::schema::{Key, has_routes};
 use crate::steps::{Step, given_again, other_talker, second_entry, talker_of};
 use std::slice;
 use toml::Value;
+use tsn_fault::{Code, Place};
 
 impl<'a> Document<'a> {
     #[tactic(auto, unfolding(crate::specs::Conditions::bad_route, crate::specs::Conditions::holds))]

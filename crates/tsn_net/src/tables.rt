@@ -11,12 +11,12 @@ use crate::conditions::table_at;
 use crate::document::{
     Document, integer_at, integer_or, number_at, number_or, text, text_at, texts_of,
 };
-use crate::fault::{Code, Place};
 use crate::matter::Matter;
 use crate::routes::routes_of;
 use crate::schema::{Key, Table, absent_key, amiss_key, other_key};
 use crate::steps::different_steps;
 use toml::Value;
+use tsn_fault::{Code, Place};
 
 impl<'a> Document<'a> {
     #[tactic(auto, unfolding(crate::specs::Conditions::missing_key, crate::specs::Conditions::holds))]

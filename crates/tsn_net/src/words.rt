@@ -1,7 +1,6 @@
 //! What is the matter with a network file, in words. Of the words nothing is claimed but what they are made of.
 use crate::conditions::Amiss;
 use crate::document::{Document, text};
-use crate::fault::Place;
 use crate::matter::{End, Matter};
 use crate::schema::Key;
 use crate::steps::Step;
@@ -9,6 +8,7 @@ use crate::tables::is_name;
 use std::alloc::Global;
 use std::fmt;
 use std::fmt::Write;
+use tsn_fault::Place;
 use tsn_text::Shown;
 
 /// The names of a place: that of a node or a stream, or those of the nodes that a cable joins.

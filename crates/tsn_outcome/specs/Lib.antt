@@ -4,4 +4,3 @@ pub mod Said
 pub mod Outcome
 pub mod Told
 pub mod Runs
-pub mod Refusal

@@ -9,13 +9,13 @@ use crate::{Answer, FileKind, Outcome};
 use std::alloc::Global;
 use tsn_cert::{FileFault, Refused};
 use tsn_check::CheckFault;
+use tsn_fault::{Code, NetFault};
 use tsn_model::NoMemory;
-use tsn_net::{Code, NetFault};
 use tsn_text::line_of;
 
-/// The line on a network file of this name that is refused.
-pub fn network_line(alloc: Global, name: &str, refused: tsn_net::Refused) -> Reason {
-    let Some(words) = refused.words else {
+/// The line on a network file of this name that is refused, with what is told of it; nothing where there was no memory for that.
+pub fn network_line(alloc: Global, name: &str, told: Option<String>) -> Reason {
+    let Some(words) = told else {
         return Err(NoMemory);
     };
     let mut text = line_of(alloc, name).finish()?;
