@@ -8,12 +8,12 @@ use Rattle.tsn_model.specs.Bridge.{LinkGates, Background, IsFed}
 use Rattle.tsn_model.proofs.Hops.{hop_uses}
 use Rattle.tsn_gate.specs.GateLists.{IsUsed}
 use Rattle.tsn_gate.specs.Merged.{AreListsBy}
-use Rattle.tsn_gate.specs.Faults.{NamesLinks, KeepsLimits, IsListed, IsWithin, HasReplayFault}
-use Rattle.tsn_gate.specs.declared.replay_fault.ReplayFault.{ReplayFault}
-use Rattle.tsn_gate.specs.declared.replay_fault.ReplayFault.TheVariants.{UnknownLink, Limit, Memory}
-use Rattle.tsn_gate.specs.Feeding.{background_for}
-use Rattle.tsn_gate.specs.Records.{AreRowsOfRun, AreRowsOfEarlyRun}
-use Rattle.tsn_gate.specs.declared.trace.Row.{Row}
+use Rattle.tsn_replay.specs.Faults.{NamesLinks, KeepsLimits, IsListed, IsWithin, HasReplayFault}
+use Rattle.tsn_replay.specs.declared.replay_fault.ReplayFault.{ReplayFault}
+use Rattle.tsn_replay.specs.declared.replay_fault.ReplayFault.TheVariants.{UnknownLink, Limit, Memory}
+use Rattle.tsn_replay.specs.Feeding.{background_for}
+use Rattle.tsn_replay.specs.Records.{AreRowsOfRun, AreRowsOfEarlyRun}
+use Rattle.tsn_replay.specs.declared.trace.Row.{Row}
 use Rattle.tsn_timing.specs.Problem.{NamedNetwork}
 use Rattle.tsn_cli.specs.declared.options.ReplayOptions.{ReplayOptions}
 use Rattle.tsn_cli.specs.Tables.{IsRunBy, AreRowsBy}

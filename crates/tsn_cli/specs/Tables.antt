@@ -18,11 +18,11 @@ use Rattle.tsn_check.specs.declared.fault.CheckFault.{CheckFault}
 use Rattle.tsn_check.specs.Faults.{IsPlanFault}
 use Rattle.tsn_gate.specs.Merged.{AreListsBy}
 use Rattle.tsn_gate.specs.Format.{text_in}
-use Rattle.tsn_gate.specs.declared.trace.Row.{Row}
-use Rattle.tsn_gate.specs.Feeding.{background_for}
-use Rattle.tsn_gate.specs.Rows as replay
-use Rattle.tsn_gate.specs.Rows.{AreRows}
-use Rattle.tsn_gate.specs.Csv.{csv_text}
+use Rattle.tsn_replay.specs.declared.trace.Row.{Row}
+use Rattle.tsn_replay.specs.Feeding.{background_for}
+use Rattle.tsn_replay.specs.Rows as replay
+use Rattle.tsn_replay.specs.Rows.{AreRows}
+use Rattle.tsn_replay.specs.Csv.{csv_text}
 use Rattle.tsn_chart.specs.declared.picture.Drawing.{Drawing}
 use Rattle.tsn_chart.specs.declared.stream.StreamShare.{StreamShare}
 use Rattle.tsn_chart.specs.declared.link.LinkShare.{LinkShare}

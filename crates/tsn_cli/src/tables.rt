@@ -7,12 +7,12 @@ ghost use Rattle.tsn_outcome.specs.Run.{RunsOver, sink_over, source_over};
 ghost use Rattle.tsn_outcome.specs.Outcome.{ComesOver, IsOutcome};
 ghost use Rattle.tsn_outcome.specs.declared.outcome.Outcome.TheVariants.{RefusedPlan};
 ghost use Rattle.tsn_cli.specs.Shown.{shown_output};
-ghost use Rattle.tsn_gate.specs.declared.trace.Row.{Row};
+ghost use Rattle.tsn_replay.specs.declared.trace.Row.{Row};
 ghost use Rattle.tsn_chart.specs.declared.link.LinkShare.{LinkShare};
 ghost use Rattle.tsn_chart.specs.declared.stream.StreamShare.{StreamShare};
 ghost use Rattle.std.specs.Option.{ForSome};
-ghost use Rattle.tsn_gate.specs.Faults.{HasReplayFault};
-ghost use Rattle.tsn_gate.specs.Feeding.{background_for};
+ghost use Rattle.tsn_replay.specs.Faults.{HasReplayFault};
+ghost use Rattle.tsn_replay.specs.Feeding.{background_for};
 ghost use Rattle.tsn_cli.specs.Tables.{AreRowsBy, CanShow, GatesAnswers, RejectsPlan, ReplayAnswers, ShowsLists, ShowsPicture, ShowsPlan, ShowsReplay, ShowsShares, ShowsTable, TableAnswers, rows_text, shares_text};
 
 use crate::inputs::{BothRead, read_both};
@@ -24,12 +24,10 @@ use tsn_cert::Plan;
 use tsn_chart::{Drawing, Shares, marked_chart, plan_shares, to_csv, to_json, to_text};
 use tsn_check::{PlanFault, judge_plan};
 use tsn_device::device::{ReadFault, Sink, Source};
-use tsn_gate::{
-    Background, GateList, ReplayFault, ReplayTable, gate_lists, lists_by, replay_early,
-    replay_rows, text_in,
-};
+use tsn_gate::{GateList, gate_lists, lists_by, text_in};
 use tsn_model::{Frame, NoMemory};
 use tsn_outcome::{Claim, line_on_plan, rejection};
+use tsn_replay::{Background, ReplayFault, ReplayTable, replay_early, replay_rows};
 use tsn_timing::{Problem, Valid};
 use tsn_words::{ReplayFormat, StreamsFormat};
 

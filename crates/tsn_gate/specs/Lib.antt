@@ -11,17 +11,3 @@ pub mod Taprio
 pub mod Json
 pub mod Device
 pub mod Format
-pub mod Values
-pub mod Frames
-pub mod Bounds
-pub mod Openings
-pub mod Queue
-pub mod Feeding
-pub mod Ports
-pub mod Tournament
-pub mod Faults
-pub mod Rows
-pub mod Records
-pub mod Progress
-pub mod Csv
-pub mod ReplayExamples

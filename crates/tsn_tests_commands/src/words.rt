@@ -2,7 +2,7 @@
 
 use std::test::*;
 use tsn_chart::words::{write_microseconds, write_name, write_whole};
-use tsn_gate::ReplayFault;
+use tsn_replay::ReplayFault;
 use tsn_text::write_quoted;
 
 #[test]

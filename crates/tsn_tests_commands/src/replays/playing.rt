@@ -2,14 +2,15 @@
 //! contract says would stand in the way of each further proof.
 ghost use Rattle.std.specs.Prelude.{◌<◌, All, IfOk, IfSome, length};
 ghost use Rattle.tsn_model.specs.Schedule.{IsValid};
-ghost use Rattle.tsn_gate.specs.declared.trace.Row.{Row};
+ghost use Rattle.tsn_replay.specs.declared.trace.Row.{Row};
 
 use crate::texts::{number, parted, place};
 use std::alloc::{AllocError, Global};
 use std::process::Abort;
 use std::test::Fail;
-use tsn_gate::{Background, BackgroundFrame, GateEntry, GateList, Sent, Trace, gate_lists, replay};
+use tsn_gate::{GateEntry, GateList, gate_lists};
 use tsn_networks::Network;
+use tsn_replay::{Background, BackgroundFrame, Sent, Trace, replay};
 use tsn_timing::{Problem, Valid};
 
 /// What is replayed.

@@ -1,7 +1,0 @@
-use Rattle.std.proofs.Common.{◌≡◌, take, string_bytes}
-use Rattle.std.specs.List.{flat_map}
-use Rattle.tsn_gate.specs.Rows.{row_text}
-use Rattle.tsn_gate.proofs.table.ReplayTable.to_text.Given as goal
-
-abbrev pub invariant-loop-row : goal.invariant-loop-row
-invariant-loop-row l = string_bytes l.text ≡ flat_map (row_text l.problem) (take l.row-index l.self)
