@@ -269,6 +269,11 @@ class Recorder(Checker):
             if kind == "last":
                 return [["from", frame[0], self.least_head(view, link, some) + self.work(link, some) - self.network.begin(frame, link)]]
             return [["until", frame[0], self.greatest_end(view, link, some) - self.work(link, some) - self.network.end(frame, link)]]
+        if kind in ("fill", "fill_back"):
+            link, frame = of[0], frame_of(of[1])
+            if kind == "fill":
+                return [["from", frame[0], of[5] - self.network.begin(frame, link)]]
+            return [["until", frame[0], of[5] - self.network.end(frame, link)]]
         if kind == "use":
             left = [fact for fact in self.clauses[of[0]] if not view.contradicts(fact)]
             if left:
@@ -291,6 +296,9 @@ class Recorder(Checker):
             return [[("clause", of[0])] + [against(it) for it in self.clauses[of[0]] if view.contradicts(it)]]
         if kind == "round":
             return [[("order", *order_of(it)) for it in of[0]]]
+        if kind in ("fill", "fill_back", "waste"):
+            streams = [frame_of(it)[0] for it in (of[1] if kind == "waste" else [of[1], *of[2]])]
+            return [[(side, i) for i in streams for side in ("from", "until")]]
         streams = [frame_of(it)[0] for it in (of[1] if kind == "pack" else of[2])]
         own = [] if kind == "pack" else [("from" if kind == "last" else "until", frame_of(of[1])[0])]
         return [own + [(side, i) for i in streams for side in ("from", "until")]]
@@ -389,9 +397,10 @@ class StepWords:
         if kind != "arrive":
             self.tell_limited(view)
         is_told = [half and not knows(view, fact) for half, fact in zip(halves, facts)]
-        if kind in ("turn", "follow", "last", "first") and not is_told[0]:
+        if kind in ("turn", "follow", "last", "first", "fill", "fill_back") and not is_told[0]:
             return
-        getattr(self, "tell_" + ("placing" if kind in ("last", "first") else kind))(view, move, facts, is_told)
+        names = {"last": "placing", "first": "placing", "fill_back": "fill"}
+        getattr(self, "tell_" + names.get(kind, kind))(view, move, facts, is_told)
 
     def tell_arrive(self, view, move, facts, is_told):
         frame = self.words.last_frame(move[1])
@@ -472,6 +481,22 @@ class StepWords:
                 f"which is {grouped(head + work - end)} ns too soon"
             )
 
+    def tell_fill(self, view, move, facts, is_told):
+        kind, link, frame, others, _, _, bound = move
+        words = self.words
+        place = "begins before" if kind == "fill" else "ends after"
+        self.parts.append(
+            f"on {words.link(link)}, where {words.frames([frame_of(frame)])} {place} {grouped(bound)}, sums of works of it and "
+            f"{words.frames([frame_of(it) for it in others])} leave more before and behind it than they may. "
+            f"So {words.fact(facts[0])}{clash(words, view, facts[0])}"
+        )
+
+    def tell_waste(self, view, move, facts, is_told):
+        link, frames = move[1], [frame_of(it) for it in move[2]]
+        self.parts.append(
+            f"on {self.words.link(link)}, sums of works of {self.words.frames(frames)} leave more between those that can't move than they may"
+        )
+
     def tell_round(self, view, move, facts, is_told):
         supposed = {order_of(opposite(it)[1:]) if it[0] == "order" else None for it in self.clause}
         self.parts.append(self.words.round(move[1], supposed == {order_of(it) for it in move[1]}))
@@ -487,9 +512,9 @@ def named_by(clause, moves):
             orders += of[0]
         elif kind == "follow":
             orders += of
-        elif kind in ("last", "first"):
+        elif kind in ("last", "first", "fill", "fill_back"):
             found |= {(of[0], frame_of(it)[0]) for it in [of[1], *of[2]]}
-        elif kind == "pack":
+        elif kind in ("pack", "waste"):
             found |= {(of[0], frame_of(it)[0]) for it in of[1]}
     return found | {(order[2], i) for order in orders for i in order[:2]}
 

@@ -10,6 +10,7 @@ docs/formats.md and docs/definitions.md say what arguments are; bench/arguments/
 """
 
 import json
+import math
 import re
 import sys
 import tomllib
@@ -21,6 +22,7 @@ MOST_LAG = 999_999_999
 MOST_U64 = 18_446_744_073_709_551_615
 LEAST_I64 = -9_223_372_036_854_775_808
 MOST_FRAMES, MOST_ORDERS = 65_536, 128
+MOST_UNITS = 4_096
 MOST_NESTED = 127
 GOALS = ("first", "least", "none")
 
@@ -239,11 +241,12 @@ def plan_of(data):
     return flowspan, offsets
 
 
-# The parts of facts and moves: n a number, t a time (a number v), l a lag, which is left out where it is 0, f a frame, s frames, p an order, o orders.
+# The parts of facts and moves: n a number, t a time (a number v), l a lag, which is left out where it is 0, f a frame, s frames, c any number of
+# frames, e an edge (a frame or none), p an order, o orders.
 FACTS = {"from": "nt", "until": "nt", "order": "nnnl", "done_from": "t", "done_until": "t"}
 MOVES = {
     "go": "nnnl", "turn": "nnnl", "use": "n", "arrive": "n", "last": "nfss", "first": "nfss", "pack": "ns", "round": "o",
-    "follow": "pp",
+    "follow": "pp", "fill": "nfseet", "fill_back": "nfseet", "waste": "nsc",
 }
 
 
@@ -286,6 +289,13 @@ class Shape:
         elif kind == "s":
             for frame in self.listed(value, MOST_FRAMES):
                 self.frame(frame)
+        elif kind == "c":
+            need(isinstance(value, list))
+            for frame in value:
+                self.frame(frame)
+        elif kind == "e":
+            if value != []:
+                self.frame(value)
         elif kind == "p":
             need(isinstance(value, list))
             self.parts("nnnl", value)
@@ -591,6 +601,110 @@ class Checker:
         if known[:2] != weaker[:2] or not self.network.weight(*weaker) <= self.network.weight(*known):
             raise Fault("K7")
         view.learn(["order", *weaker])
+
+
+    def hall(self, view, link, frames):
+        """Frames on a link, all of them right, with what they come to there."""
+        return Hall(frames, {frame: self.row(view, link, frame) for frame in frames})
+
+    def row(self, view, link, frame):
+        """The earliest head of a frame on a link, its latest end and its work."""
+        network, stream = self.network, frame[0]
+        head, end = view.low[stream] + network.begin(frame, link), view.high[stream] + network.end(frame, link)
+        return max(0, head), max(0, end), network.streams[stream].kept[link]
+
+    def try_fixed(self, view, among, frame):
+        """The frame is one of these, and can't move."""
+        if frame not in among:
+            raise Fault("K6")
+        if view.high[frame[0]] > view.low[frame[0]]:
+            raise Fault("K7")
+
+    def filled_up(self, view, link, frame, others, edges, places):
+        """A frame that may begin at none of the places, so far as sums of works tell."""
+        frame, others = frame_of(frame), [frame_of(it) for it in others]
+        edges = [None if it == [] else frame_of(it) for it in edges]
+        self.try_users(link, [frame, *others])
+        for edge in edges:
+            if edge is not None:
+                self.try_fixed(view, others, edge)
+        hall = self.hall(view, link, [frame, *others])
+        head, end, work = hall.rows[frame]
+        low = hall.first if edges[0] is None else hall.rows[edges[0]][1]
+        high = hall.last if edges[1] is None else hall.rows[edges[1]][0]
+        left, right = hall.left(low, high), hall.right(low, high)
+        for place in places(head, end, work):
+            after = place + work
+            if not (low <= place and after <= high and hall.idle < left.wasted(place - low) + right.wasted(high - after)):
+                raise Fault("K7")
+        return frame
+
+    def move_fill(self, view, link, frame, others, before, after, start):
+        frame = self.filled_up(view, link, frame, others, (before, after), lambda head, end, work: range(head, start))
+        view.learn(["from", frame[0], start - self.network.begin(frame, link)])
+        self.end(view)
+
+    def move_fill_back(self, view, link, frame, others, before, after, finish):
+        ends = lambda head, end, work: range(max(0, finish + 1 - work), max(0, end + 1 - work))
+        frame = self.filled_up(view, link, frame, others, (before, after), ends)
+        view.learn(["until", frame[0], finish - self.network.end(frame, link)])
+        self.end(view)
+
+    def move_waste(self, view, link, frames, fixed):
+        frames, fixed = [frame_of(it) for it in frames], [frame_of(it) for it in fixed]
+        self.try_users(link, frames)
+        hall = self.hall(view, link, frames)
+        low, lost = hall.first, 0
+        for frame in fixed:
+            self.try_fixed(view, frames, frame)
+            head, end, _ = hall.rows[frame]
+            if head < low:
+                raise Fault("K7")
+            lost += hall.left(low, head).wasted(head - low)
+            low = end
+        if not lost + hall.left(low, hall.last).wasted(max(0, hall.last - low)) > hall.idle:
+            raise Fault("K7")
+        self.shut(view)
+
+
+class Hall:
+    """Frames on a link between their first head and their last end."""
+
+    def __init__(self, frames, rows):
+        self.frames, self.rows = frames, rows
+        self.first = min(head for head, _, _ in rows.values())
+        self.last = max(end for _, end, _ in rows.values())
+        works = [work for _, _, work in rows.values()]
+        self.unit = math.gcd(*works)
+        self.idle = max(0, self.last - (self.first + sum(works)))
+
+    def sums(self, low, high, key):
+        """The sums of works of the frames that may lie in a room; the key says how far from where it begins each is at least."""
+        there = [row for row in self.rows.values() if low + row[2] <= row[1] and row[0] + row[2] <= high]
+        return Sums(self.unit, self.idle, sorted((max(0, key(row)), row[2]) for row in there))
+
+    def left(self, low, high):
+        return self.sums(low, high, lambda row: row[0] - low)
+
+    def right(self, low, high):
+        return self.sums(low, high, lambda row: high - row[1])
+
+
+class Sums:
+    """Which multiples of a unit works add up to, as bits; one with a key asks that those with no greater keys add up to that but for the idle time."""
+
+    def __init__(self, unit, idle, rows):
+        self.unit, self.bits = unit, 1
+        for key, work in rows:
+            least = -(-max(0, key - idle) // unit)
+            self.bits |= (self.bits >> least << least << work // unit) & ((1 << MOST_UNITS + 1) - 1)
+
+    def wasted(self, room):
+        """What they leave at least of a room."""
+        if room > MOST_UNITS * self.unit:
+            return 0
+        units = room // self.unit
+        return room - self.unit * ((self.bits & ((1 << units + 1) - 1)).bit_length() - 1)
 
 
 def verdict(network, plan, argument, checker):

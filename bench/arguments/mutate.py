@@ -125,7 +125,11 @@ class Case:
         some = self.chance.sample(users, self.chance.randint(1, len(users)))
         if kinds == "ns":
             return [word, link, some]
+        if kinds == "nsc":
+            return [word, link, some, self.chance.sample(some, self.chance.randint(0, len(some)))]
         others = some[1:] or [self.frame()]
+        if kinds == "nfseet":
+            return [word, link, some[0], others, self.chance.choice([[], *others]), self.chance.choice([[], *others]), self.time()]
         return [word, link, some[0], others, self.chance.sample(others, self.chance.randint(1, len(others)))]
 
     def step(self, needs=lambda step: True):

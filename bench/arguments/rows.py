@@ -171,6 +171,18 @@ def pack(link, some):
     return ["pack", link, some]
 
 
+def fill(link, frame, others, before, after, v):
+    return ["fill", link, frame, others, before, after, v]
+
+
+def fill_back(link, frame, others, before, after, v):
+    return ["fill_back", link, frame, others, before, after, v]
+
+
+def waste(link, some, fixed):
+    return ["waste", link, some, fixed]
+
+
 def round_of(*orders):
     return ["round", [list(it) for it in orders]]
 
@@ -679,6 +691,26 @@ def moves(rows):
     row("K7 0", [f(0, 772), f(1, 772), u(0, 99)], pack(4, [0, 1]))
     row("K7 0", [f(0, 672), f(1, 672)], pack(4, [0]))
     row("K7 0", [f(0, 672), f(1, 672)], pack(0, [0]))
+    rows.note("fill: between 1626 and 2969 there is no idle time for two frames of 672 ns, and what one leaves, 671 ns, no other fills.")
+    near = [f(0, 672), f(1, 672)]
+    row("first 2924", near, fill(4, 1, [0], [], [], 2298))
+    row("first 2924", near, fill(4, 0, [1], [], [], 2298))
+    row("K7 0", near, fill(4, 1, [0], [], [], 2299))
+    row("K7 0", near, fill(4, 1, [0], [], [], 2297))
+    row("K7 0", near, fill(4, 1, [0], [], [], 1626))
+    row("K7 0", [f(0, 673), f(1, 672)], fill(4, 1, [0], [], [], 2298))
+    row("first 2924", near, fill_back(4, 1, [0], [], [], 2297))
+    row("first 2924", near, fill_back(4, 0, [1], [], [], 2297))
+    row("K7 0", near, fill_back(4, 0, [1], [], [], 2296))
+    row("K7 0", near, fill_back(4, 0, [1], [], [], 2298))
+    row("K7 0", [f(0, 672), f(1, 673)], fill_back(4, 0, [1], [], [], 2297))
+    rows.note("waste: behind stream 0, which starts at 0, 671 ns stay empty, with 1 ns more none.")
+    row("first 2924", [f(0, 1), f(1, 672)], waste(4, [0, 1], [0]))
+    row("first 2924", [f(0, 1), f(1, 672)], waste(4, [1, 0], []))
+    row("K7 0", [f(0, 1), f(1, 673)], waste(4, [0, 1], [0]))
+    row("K7 0", [f(0, 2), f(1, 672)], waste(4, [0, 1], [0]))
+    row("K7 0", [f(0, 1), f(1, 672)], waste(4, [0, 1], [1]))
+    row("K7 0", [f(0, 1), f(1, 672)], waste(4, [0, 1], [0, 0]))
     rows.note("round: an order and the other one, in a row that closes; 1344 more each time round.")
     both = [o(0, 1, 4), o(1, 0, 4)]
     row("first 2924", both, round_of([1, 0, 4], [0, 1, 4]))
@@ -710,6 +742,27 @@ def moves(rows):
         (4, [1], "K7 0"),
     ):
         rows.row(hand, f"MOVE => {text(pack(link, some))}")
+    for link, j, others, before, after, hand in (
+        (4, 1, [0], [], [], "first 2924"), (4, 1, [0], 1, [], "K6 0"), (4, 1, [0], [], 1, "K6 0"), (4, 1, [0], 2, 0, "K6 0"), (4, 1, [0], 0, 2, "K7 0"),
+        (4, 1, [0], [], 0, "K7 0"), (4, 1, [0], [0, 1], [], "K6 0"), (4, 2, [0], [], [], "K9 0"), (4, 1, [2], 7, [], "K9 0"), (0, 1, [0], [], [], "K9 0"),
+        (4, 1, [1], 7, [], "K8 0"), (4, 1, [0, 0], [], [], "K8 0"),
+    ):
+        rows.row(hand, f"MOVE => {text(fill(link, j, others, before, after, 2298))}")
+        rows.row(hand, f"MOVE => {text(fill_back(link, j, others, before, after, 2297))}")
+    for link, some, fixed, hand in (
+        (4, [0, 1], [], "first 2924"), (4, [0, 1], [0], "K7 0"), (4, [0, 1], [2], "K6 0"), (4, [0, 1], [2, 0], "K6 0"), (4, [0, 1], [0, 2], "K7 0"),
+        (4, [0, 1], [[0, 1]], "K6 0"), (4, [0, 0], [], "K8 0"), (4, [0, 2], [7], "K9 0"), (0, [0], [], "K7 0"), (0, [1], [], "K9 0"),
+    ):
+        rows.row(hand, f"MOVE => {text(waste(link, some, fixed))}")
+    for word in ("fill", "fill_back"):
+        for of in ("4,1,[0],[],[]", "4,1,[],[],[],9", "4,1,[0],[[]],[],9", "4,1,[0],[0,0],[],9", "4,1,[0],null,[],9", "4,1,[0],[],[],-1", "4,1,[0],[],[],9,9",
+                   "4,1,0,[],[],9", "4,[],[0],[],[],9", "4,1,[0],[],[0],9", "4,1,[0],[],[1,2,3],9", '4,1,[0],[],[],"9"'):
+            rows.row("C2", f'MOVE => ["{word}",{of}]')
+        for of in ("4,1,[0],[],[],2000000001", "4,1,[0],4294967296,[],9", "4,1,[0],[],[1,4294967296],9", "4294967296,1,[0],[],[],9"):
+            rows.row("C3", f'MOVE => ["{word}",{of}]')
+    for of in ("4,[0,1]", "4,[],[]", "4,[0,1],0", "4,[0,1],[[]]", "4,[0,1],[[0,0]]", "4,[0,1],[0],[0]", "[4],[0,1],[0]"):
+        rows.row("C2", f'MOVE => ["waste",{of}]')
+    rows.row("C3", 'MOVE => ["waste",4,[0,1],[4294967296]]')
 
     rows.table("Moves on a view that is impossible, whatever they are, and moves behind one that is refused.",
                ("cert", '{"format":3,"goal":"first","steps":[STEP,PROOF],"target":2924}'.replace("PROOF", PROOF)), net=TWO, plan=PLAN)

@@ -20,3 +20,7 @@ pub mod Verdicts
 pub mod ViewLemmas
 pub mod TakingAll
 pub mod Telling
+pub mod RoomLemmas
+pub mod Turns
+pub mod OpenPlaces
+pub mod FillingLemmas

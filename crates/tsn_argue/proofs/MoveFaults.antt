@@ -1,6 +1,7 @@
 -- What is wrong with a move, which may not be made then; and that no other thing is wrong with it.
-use Rattle.std.proofs.Common.{◌≡◌, ℕ, zero, suc, List, [], ◌∷◌, ◌++◌, length, take, Some, Bool, Contains, ℤ, pos, ◌≤ℤ◌, ◌<ℤ◌, inl, inr, refl, sym, ap, ◌∙◌, arith}
-use Rattle.std.proofs.lemmas.List.Elements.{All-take, All-push}
+use Rattle.std.proofs.Common.{◌≡◌, ℕ, zero, suc, List, [], ◌∷◌, ◌++◌, length, take, Some, Bool, All, Contains, ℤ, pos, ◌≤ℤ◌, ◌<ℤ◌, inl, inr, refl, sym, ap, ◌∙◌, arith}
+use Rattle.std.proofs.lemmas.Bool.{cases_lt}
+use Rattle.std.proofs.lemmas.List.Elements.{All-head, All-tail, All-take, All-push}
 use Rattle.std.proofs.lemmas.Int.{ints}
 use Rattle.std.specs.Prelude.{slice_get}
 use Rattle.tsn_model.specs.Network.{Network}
@@ -8,12 +9,14 @@ use Rattle.tsn_model.specs.declared.Frame.{Frame}
 use Rattle.tsn_model.specs.declared.Arc.{Arc}
 use Rattle.tsn_model.specs.declared.Decision.{Decision}
 use Rattle.tsn_model.specs.Arcs.{arc_of}
+use Rattle.tsn_model.specs.Timing.{separation}
 use Rattle.tsn_model.proofs.Routes.{UsesLink-counted}
 use Rattle.tsn_model.specs.Certificate.{IsFrameOn}
-use Rattle.tsn_model.specs.Argument.{go, turn, apply, put_last, put_first, pack, round, follow, Fact, View, Move, AreOn, AreSome, LeadsBy, AsksNoMore, IsAllowed}
+use Rattle.tsn_model.specs.Argument.{go, turn, apply, put_last, put_first, pack, round, follow, fill, fill_back, waste, Fact, View, Move, natural, Edge, outermost, beside, IsEdge, AreInTurn, left_edge, right_edge, end_at, first_head, AreOn, AreSome, LeadsBy, AsksNoMore, IsAllowed}
 use Rattle.tsn_argue.specs.First.{IsFirstWrong}
-use Rattle.tsn_argue.specs.Faults.{IsOffLink, IsWrongFrame, AreWrongOn, AreAmong, IsWrongChoice, AreWrongAmong, IsWrongPlacing, LeadOn, GoRound, IsWrongOrder, IsUnclosed, AsksMore, IsWrongMove}
+use Rattle.tsn_argue.specs.Faults.{IsOffLink, IsWrongFrame, AreWrongOn, AreAmong, IsWrongChoice, AreWrongAmong, IsWrongPlacing, LeadOn, GoRound, IsWrongOrder, IsUnclosed, AsksMore, IsWrongEdge, AreShut, IsFirstOpen, HasOpen, IsWrongFilling, IsWrongTurn, IsWrongMove}
 use Rattle.tsn_check.specs.declared.wrong.Wrong.{Wrong}
+use Rattle.tsn_check.specs.declared.wrong.Wrong.TheVariants.{Open}
 use Rattle.tsn_argue.proofs.FirstLemmas.{first_wrong_refutes, one_first_wrong, all_there, none_before}
 use Rattle.std.proofs.lemmas.Option.{slice_get_within}
 
@@ -100,6 +103,40 @@ asks_refuted decision arc known fault (inr more) less = crossed arc.weight known
 not_above : (a : ℤ) → a ≤ℤ pos 0 → pos 0 <ℤ a → ⊥
 not_above a low high = grind (arith, ints)
 
+-- ---- rooms
+
+edge_refuted : (view : View) (frames : List Frame) (edge : Edge) (fault : Wrong) → IsWrongEdge view frames edge fault → IsEdge view frames edge → ⊥
+edge_refuted view frames outermost fault wrong is = wrong
+edge_refuted view frames (beside frame) fault (inl none) is = none.1 is.0
+edge_refuted view frames (beside frame) fault (inr movable) is = movable.2 is.1
+
+filling_refuted : (network : Network) (view : View) (link : ℕ) (frame : Frame) (frames : List Frame) (before after : Edge) (least most : ℕ) (fault : Wrong)
+    → IsWrongFilling network view link frame frames before after least most fault
+    → AreOn network link (frame ∷ frames) → IsEdge view frames before → IsEdge view frames after
+    → AreShut network view link (frame ∷ frames) (left_edge network view link (frame ∷ frames) before) (right_edge network view link (frame ∷ frames) after)
+    (separation network frame.stream link) least most → ⊥
+filling_refuted network view link frame frames before after least most fault (inl on) are first second shut = on_refuted network link (frame ∷ frames) fault
+    on are
+filling_refuted network view link frame frames before after least most fault (inr (inl edge)) are first second shut = edge_refuted view frames before fault
+    edge.1 first
+filling_refuted network view link frame frames before after least most fault (inr (inr (inl edge))) are first second shut = edge_refuted view frames after
+    fault edge.2 second
+filling_refuted network view link frame frames before after least most fault (inr (inr (inr place))) are first second shut =
+    let there = place.3.2 in
+    there.opens (shut place.3.0 there.after there.within)
+
+turn_refuted : (network : Network) (view : View) (link : ℕ) (frames : List Frame) (low : ℕ) (fixed : List Frame) (fault : Wrong)
+    → IsWrongTurn network view link frames low fixed fault → All (Contains frames) fixed → AreInTurn network view link low fixed → ⊥
+turn_refuted network view link frames low [] fault wrong among ordered = wrong
+turn_refuted network view link frames low (frame ∷ fixed) fault (inl none) among ordered = none.1 (All-head (Contains frames) frame fixed among)
+turn_refuted network view link frames low (frame ∷ fixed) fault (inr (inl movable)) among ordered = movable.2 ordered.0
+turn_refuted network view link frames low (frame ∷ fixed) fault (inr (inr (inl early))) among ordered =
+    let begins = early.3 in
+    let later = ordered.1 in
+    omega (arith, begins, later)
+turn_refuted network view link frames low (frame ∷ fixed) fault (inr (inr (inr rest))) among ordered =
+    turn_refuted network view link frames (natural (end_at network view link frame)) fixed fault rest.3 (All-tail (Contains frames) frame fixed among) ordered.2
+
 pub wrong_move : (network : Network) (clauses : List (List Fact)) (view : View) (move : Move) (fault : Wrong)
     → IsWrongMove network clauses view move fault → IsAllowed network clauses view move → ⊥
 wrong_move network clauses view (go decision) fault wrong is = wrong.1 is
@@ -118,6 +155,14 @@ wrong_move network clauses view (round decisions) fault (inr wrong) is = not_abo
 wrong_move network clauses view (follow decision weaker) fault (inl wrong) is = wrong.1 is.0
 wrong_move network clauses view (follow decision weaker) fault (inr (inl wrong)) is = wrong.2 is.1
 wrong_move network clauses view (follow decision weaker) fault (inr (inr wrong)) is = asks_refuted weaker _ _ fault wrong.2 is.2
+wrong_move network clauses view (fill link frame frames before after start) fault wrong is =
+    filling_refuted network view link frame frames before after _ _ fault wrong is.0 is.1 is.2 is.3
+wrong_move network clauses view (fill_back link frame frames before after finish) fault wrong is =
+    filling_refuted network view link frame frames before after _ _ fault wrong is.0 is.1 is.2 (λ x low high. is.3 x (omega arith) (omega arith))
+wrong_move network clauses view (waste link frames fixed) fault (inl wrong) is = on_refuted network link frames fault wrong is.0
+wrong_move network clauses view (waste link frames fixed) fault (inr (inl wrong)) is =
+    turn_refuted network view link frames (natural (first_head network view link frames)) fixed fault wrong.1 is.1 is.2
+wrong_move network clauses view (waste link frames fixed) fault (inr (inr wrong)) is = let few = wrong.3.1 in let past = is.3 in omega (arith, few, past)
 wrong_move network clauses view _ fault wrong is = let past = wrong.1 in omega (arith, past, is)
 
 -- ---- of two faults
@@ -199,6 +244,81 @@ one_asked decision arc known a b (inl one) (inr two) = absurd (one.1 two.0)
 one_asked decision arc known a b (inr one) (inl two) = absurd (two.1 one.0)
 one_asked decision arc known a b (inr one) (inr two) = one.1 ∙ sym two.1
 
+one_edge : (view : View) (frames : List Frame) (edge : Edge) (a b : Wrong) → IsWrongEdge view frames edge a → IsWrongEdge view frames edge b → a ≡ b
+one_edge view frames outermost a b one two = absurd one
+one_edge view frames (beside frame) a b (inl one) (inl two) = one.0 ∙ sym two.0
+one_edge view frames (beside frame) a b (inl one) (inr two) = absurd (one.1 two.1)
+one_edge view frames (beside frame) a b (inr one) (inl two) = absurd (two.1 one.1)
+one_edge view frames (beside frame) a b (inr one) (inr two) = one.0 ∙ sym two.0
+
+module _ (network : Network) (view : View) (link : ℕ) (frames : List Frame) (low high work least most : ℕ) where
+  same_open : (x y : ℕ) → IsFirstOpen network view link frames low high work least most x → IsFirstOpen network view link frames low high work least most y
+      → x ≡ y
+  same_open x y one two = elim (cases_lt x y) [
+    | inl below ↦ absurd (one.opens (two.before x one.after below))
+    | inr above ↦ elim (cases_lt y x) [
+      | inl below ↦ absurd (two.opens (one.before y two.after below))
+      | inr past ↦ omega arith
+    ]
+  ]
+
+  one_open : (a b : Wrong) → HasOpen network view link frames low high work least most a → HasOpen network view link frames low high work least most b → a ≡ b
+  one_open a b one two = one.1 ∙ ap (Open link) (same_open one.0 two.0 one.2 two.2) ∙ sym two.1
+
+one_filling : (network : Network) (view : View) (link : ℕ) (frame : Frame) (frames : List Frame) (before after : Edge) (least most : ℕ) (a b : Wrong)
+    → IsWrongFilling network view link frame frames before after least most a
+    → IsWrongFilling network view link frame frames before after least most b → a ≡ b
+one_filling network view link frame frames before after least most a b (inl one) (inl two) = one_on network link (frame ∷ frames) a b one two
+one_filling network view link frame frames before after least most a b (inl one) (inr (inl two)) = absurd (on_refuted network link (frame ∷ frames) a one two.0)
+one_filling network view link frame frames before after least most a b (inl one) (inr (inr (inl two))) = absurd
+    (on_refuted network link (frame ∷ frames) a one two.0)
+one_filling network view link frame frames before after least most a b (inl one) (inr (inr (inr two))) = absurd
+    (on_refuted network link (frame ∷ frames) a one two.0)
+one_filling network view link frame frames before after least most a b (inr (inl one)) (inl two) = absurd (on_refuted network link (frame ∷ frames) b two one.0)
+one_filling network view link frame frames before after least most a b (inr (inr (inl one))) (inl two) = absurd
+    (on_refuted network link (frame ∷ frames) b two one.0)
+one_filling network view link frame frames before after least most a b (inr (inr (inr one))) (inl two) = absurd
+    (on_refuted network link (frame ∷ frames) b two one.0)
+one_filling network view link frame frames before after least most a b (inr (inl one)) (inr (inl two)) = one_edge view frames before a b one.1 two.1
+one_filling network view link frame frames before after least most a b (inr (inl one)) (inr (inr (inl two))) = absurd
+    (edge_refuted view frames before a one.1 two.1)
+one_filling network view link frame frames before after least most a b (inr (inl one)) (inr (inr (inr two))) = absurd
+    (edge_refuted view frames before a one.1 two.1)
+one_filling network view link frame frames before after least most a b (inr (inr (inl one))) (inr (inl two)) = absurd
+    (edge_refuted view frames before b two.1 one.1)
+one_filling network view link frame frames before after least most a b (inr (inr (inr one))) (inr (inl two)) = absurd
+    (edge_refuted view frames before b two.1 one.1)
+one_filling network view link frame frames before after least most a b (inr (inr (inl one))) (inr (inr (inl two))) = one_edge view frames after a b one.2 two.2
+one_filling network view link frame frames before after least most a b (inr (inr (inl one))) (inr (inr (inr two))) = absurd
+    (edge_refuted view frames after a one.2 two.2)
+one_filling network view link frame frames before after least most a b (inr (inr (inr one))) (inr (inr (inl two))) = absurd
+    (edge_refuted view frames after b two.2 one.2)
+one_filling network view link frame frames before after least most a b (inr (inr (inr one))) (inr (inr (inr two))) =
+    one_open network view link (frame ∷ frames) _ _ _ least most a b one.3 two.3
+
+one_turn : (network : Network) (view : View) (link : ℕ) (frames : List Frame) (low : ℕ) (fixed : List Frame) (a b : Wrong)
+    → IsWrongTurn network view link frames low fixed a → IsWrongTurn network view link frames low fixed b → a ≡ b
+one_turn network view link frames low [] a b one two = absurd one
+one_turn network view link frames low (frame ∷ fixed) a b (inl one) (inl two) = one.0 ∙ sym two.0
+one_turn network view link frames low (frame ∷ fixed) a b (inl one) (inr (inl two)) = absurd (one.1 two.1)
+one_turn network view link frames low (frame ∷ fixed) a b (inl one) (inr (inr (inl two))) = absurd (one.1 two.1)
+one_turn network view link frames low (frame ∷ fixed) a b (inl one) (inr (inr (inr two))) = absurd (one.1 two.0)
+one_turn network view link frames low (frame ∷ fixed) a b (inr (inl one)) (inl two) = absurd (two.1 one.1)
+one_turn network view link frames low (frame ∷ fixed) a b (inr (inr (inl one))) (inl two) = absurd (two.1 one.1)
+one_turn network view link frames low (frame ∷ fixed) a b (inr (inr (inr one))) (inl two) = absurd (two.1 one.0)
+one_turn network view link frames low (frame ∷ fixed) a b (inr (inl one)) (inr (inl two)) = one.0 ∙ sym two.0
+one_turn network view link frames low (frame ∷ fixed) a b (inr (inl one)) (inr (inr (inl two))) = absurd (one.2 two.2)
+one_turn network view link frames low (frame ∷ fixed) a b (inr (inl one)) (inr (inr (inr two))) = absurd (one.2 two.1)
+one_turn network view link frames low (frame ∷ fixed) a b (inr (inr (inl one))) (inr (inl two)) = absurd (two.2 one.2)
+one_turn network view link frames low (frame ∷ fixed) a b (inr (inr (inr one))) (inr (inl two)) = absurd (two.2 one.1)
+one_turn network view link frames low (frame ∷ fixed) a b (inr (inr (inl one))) (inr (inr (inl two))) = one.0 ∙ sym two.0
+one_turn network view link frames low (frame ∷ fixed) a b (inr (inr (inl one))) (inr (inr (inr two))) =
+    let begins = one.3 in let later = two.2 in absurd (omega (arith, begins, later))
+one_turn network view link frames low (frame ∷ fixed) a b (inr (inr (inr one))) (inr (inr (inl two))) =
+    let begins = two.3 in let later = one.2 in absurd (omega (arith, begins, later))
+one_turn network view link frames low (frame ∷ fixed) a b (inr (inr (inr one))) (inr (inr (inr two))) =
+    one_turn network view link frames (natural (end_at network view link frame)) fixed a b one.3 two.3
+
 pub one_move : (network : Network) (clauses : List (List Fact)) (view : View) (move : Move) (a b : Wrong) → IsWrongMove network clauses view move a
     → IsWrongMove network clauses view move b → a ≡ b
 one_move network clauses view (turn decision) a b (inl one) (inl two) = one.0 ∙ sym two.0
@@ -228,4 +348,19 @@ one_move network clauses view (follow decision weaker) a b (inr (inl one)) (inr 
 one_move network clauses view (follow decision weaker) a b (inr (inl one)) (inr (inr two)) = absurd (one.2 two.1)
 one_move network clauses view (follow decision weaker) a b (inr (inr one)) (inr (inl two)) = absurd (two.2 one.1)
 one_move network clauses view (follow decision weaker) a b (inr (inr one)) (inr (inr two)) = one_asked weaker _ _ a b one.2 two.2
+one_move network clauses view (fill link frame frames before after start) a b one two = one_filling network view link frame frames before after _ _ a b one two
+one_move network clauses view (fill_back link frame frames before after finish) a b one two =
+    one_filling network view link frame frames before after _ _ a b one two
+one_move network clauses view (waste link frames fixed) a b (inl one) (inl two) = one_on network link frames a b one two
+one_move network clauses view (waste link frames fixed) a b (inl one) (inr (inl two)) = absurd (on_refuted network link frames a one two.0)
+one_move network clauses view (waste link frames fixed) a b (inl one) (inr (inr two)) = absurd (on_refuted network link frames a one two.0)
+one_move network clauses view (waste link frames fixed) a b (inr (inl one)) (inl two) = absurd (on_refuted network link frames b two one.0)
+one_move network clauses view (waste link frames fixed) a b (inr (inr one)) (inl two) = absurd (on_refuted network link frames b two one.0)
+one_move network clauses view (waste link frames fixed) a b (inr (inl one)) (inr (inl two)) =
+    one_turn network view link frames (natural (first_head network view link frames)) fixed a b one.1 two.1
+one_move network clauses view (waste link frames fixed) a b (inr (inl one)) (inr (inr two)) =
+    absurd (turn_refuted network view link frames (natural (first_head network view link frames)) fixed a one.1 two.1 two.2)
+one_move network clauses view (waste link frames fixed) a b (inr (inr one)) (inr (inl two)) =
+    absurd (turn_refuted network view link frames (natural (first_head network view link frames)) fixed b two.1 one.1 one.2)
+one_move network clauses view (waste link frames fixed) a b (inr (inr one)) (inr (inr two)) = one.3.0 ∙ sym two.3.0
 one_move network clauses view _ a b one two = one.0 ∙ sym two.0

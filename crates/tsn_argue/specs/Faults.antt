@@ -1,21 +1,22 @@
 -- The first reason why an argument shows nothing of a plan, with the numbers that show it.
 --     IsWrongFact                                      what is wrong with a fact of a clause
 --     IsOffLink, IsWrongFrame, IsWrongChoice           what is wrong with a frame
+--     IsWrongFilling, IsWrongTurn, IsFilled            what is wrong with a room
 --     IsWrongOrder, IsWrongMove                        what is wrong with a move on a view
 --     IsWrongStep, IsOpen                              what is wrong with a step, and what all steps leave in question
 --     IsArgumentFault, IsWhy                           the first fault of an argument, and of a plan and an argument
 --     IsShowFault, IsFirstFault                        the same as a fault of a certificate, and of a certificate of either kind
-use Rattle.std.specs.Prelude.{◌≡◌, ◌≢◌, ◌⊎◌, ℕ, ◌<◌, ◌≤◌, List, [], ◌∷◌, ◌++◌, length, ℤ, pos, ◌+ℤ◌, ◌≤ℤ◌, ◌<ℤ◌, None, Bool, true, false, All, AllPairs, Contains}
+use Rattle.std.specs.Prelude.{◌≡◌, ◌≢◌, ◌⊎◌, ℕ, suc, ◌-◌, ◌<◌, ◌≤◌, List, [], ◌∷◌, ◌++◌, length, ℤ, pos, ◌+ℤ◌, ◌≤ℤ◌, ◌<ℤ◌, None, Bool, true, false, All, AllPairs, Contains}
 use Rattle.tsn_model.specs.declared.Arc.{Arc}
 use Rattle.tsn_model.specs.declared.Decision.{Decision}
 use Rattle.tsn_model.specs.Network.{Network, stream_count}
 use Rattle.tsn_model.specs.declared.Frame.{Frame}
-use Rattle.tsn_model.specs.Timing.{Sends, UsesLink}
+use Rattle.tsn_model.specs.Timing.{separation, Sends, UsesLink}
 use Rattle.tsn_model.specs.Certificate.{IsFrameOn}
 use Rattle.tsn_model.specs.Schedule.{IsConflict, offset_of, flowspan, target_of}
 use Rattle.tsn_model.specs.Arcs.{arc_of}
 use Rattle.tsn_model.specs.Argument as model
-use Rattle.tsn_model.specs.Argument.{goal_first, goal_least, goal_none, from, until, order, done_from, done_until, IsFact, View, low_at, high_at, IsImpossible, first_head, last_end, work_on, AreOn, AreSome, go, turn, apply, arrive, put_last, put_first, pack, round, follow, turned, left_open, clause_at, LeadsBy, weight_by, AreAllowed, narrowed, first_ground, Known, begun, ended, IsRight, known_after, IsSettled}
+use Rattle.tsn_model.specs.Argument.{goal_first, goal_least, goal_none, from, until, order, done_from, done_until, IsFact, View, low_at, high_at, IsImpossible, first_head, head_at, end_at, last_end, work_on, AreOn, AreSome, natural, idle_on, IsFixed, Edge, outermost, beside, IsEdge, left_edge, right_edge, IsShut, AreInTurn, lost, go, turn, apply, arrive, put_last, put_first, pack, round, follow, fill, fill_back, waste, turned, left_open, clause_at, LeadsBy, weight_by, AreAllowed, narrowed, first_ground, Known, begun, ended, IsRight, known_after, IsSettled}
 use Rattle.tsn_cert.specs.declared.plan.Plan.{Plan}
 use Rattle.tsn_cert.specs.Argument.{steps_of}
 use Rattle.tsn_cert.specs.declared.argument.Argument.{Argument}
@@ -128,6 +129,59 @@ AsksMore decision arc known wrong =
     ((wrong ≡ kind.OfOthers) × (AreAlike arc known → ⊥))
     ⊎ (AreAlike arc known × (wrong ≡ kind.Stronger decision arc.weight known.weight) × (known.weight <ℤ arc.weight))
 
+-- ---- rooms on a link
+
+-- the frame beside which a room begins or ends is none of these, or it is and can still move
+abbrev pub IsWrongEdge : View → List Frame → Edge → Wrong → Type 0
+IsWrongEdge view frames outermost wrong = ⊥
+IsWrongEdge view frames (beside frame) wrong =
+    ((wrong ≡ kind.NotAmong frame) × (Contains frames frame → ⊥))
+    ⊎ ((wrong ≡ kind.Movable frame) × Contains frames frame × (IsFixed view frame → ⊥))
+
+-- each of these places is shut
+abbrev pub AreShut : Network → View → ℕ → List Frame → (low high work least most : ℕ) → Type 0
+AreShut network view link frames low high work least most = (x : ℕ) → least ≤ x → x < most → IsShut network view link frames low high work x
+
+-- the first of these places that isn't shut
+pub record IsFirstOpen (network : Network) (view : View) (link : ℕ) (frames : List Frame) (low high work least most x : ℕ) : Type 0 where
+  pub after : least ≤ x
+  pub within : x < most
+  pub before : AreShut network view link frames low high work least x
+  pub opens : IsShut network view link frames low high work x → ⊥
+
+-- a place of these isn't shut
+abbrev pub HasOpen : Network → View → ℕ → List Frame → (low high work least most : ℕ) → Wrong → Type 0
+HasOpen network view link frames low high work least most wrong =
+    (x : ℕ) × (wrong ≡ kind.Open link x) × IsFirstOpen network view link frames low high work least most x
+
+-- a wrong frame, then a wrong edge, then the first place that isn't shut
+abbrev pub IsWrongFilling : Network → View → ℕ → Frame → List Frame → (before after : Edge) → (least most : ℕ) → Wrong → Type 0
+IsWrongFilling network view link frame frames before after least most wrong =
+    AreWrongOn network link (frame ∷ frames) wrong
+    ⊎ (AreOn network link (frame ∷ frames) × IsWrongEdge view frames before wrong)
+    ⊎ (AreOn network link (frame ∷ frames) × IsEdge view frames before × IsWrongEdge view frames after wrong)
+    ⊎ (AreOn network link (frame ∷ frames) × IsEdge view frames before × IsEdge view frames after
+    × HasOpen network view link (frame ∷ frames) (left_edge network view link (frame ∷ frames) before) (right_edge network view link (frame ∷ frames) after)
+    (separation network frame.stream link) least most wrong)
+
+-- the first of the frames that can't move that is none of these, or can move, or begins before low or the end of the one before it
+abbrev pub IsWrongTurn : Network → View → ℕ → List Frame → ℕ → List Frame → Wrong → Type 0
+IsWrongTurn network view link frames low [] wrong = ⊥
+IsWrongTurn network view link frames low (frame ∷ fixed) wrong =
+    ((wrong ≡ kind.NotAmong frame) × (Contains frames frame → ⊥))
+    ⊎ ((wrong ≡ kind.Movable frame) × Contains frames frame × (IsFixed view frame → ⊥))
+    ⊎ ((wrong ≡ kind.OutOfTurn frame) × Contains frames frame × IsFixed view frame × (natural (head_at network view link frame) < low))
+    ⊎ (Contains frames frame × IsFixed view frame × (low ≤ natural (head_at network view link frame))
+    × IsWrongTurn network view link frames (natural (end_at network view link frame)) fixed wrong)
+
+-- what the frames leave of their rooms isn't more than the idle time
+abbrev pub IsFilled : Network → View → ℕ → List Frame → List Frame → Wrong → Type 0
+IsFilled network view link frames fixed wrong =
+    (wrong ≡ kind.Filled link (lost network view link frames (natural (first_head network view link frames)) (natural (last_end network view link frames)) fixed)
+    (idle_on network view link frames))
+    × (lost network view link frames (natural (first_head network view link frames)) (natural (last_end network view link frames)) fixed
+    ≤ idle_on network view link frames)
+
 -- ---- moves
 
 -- what is wrong with a move on a view that isn't impossible
@@ -157,6 +211,16 @@ IsWrongMove network clauses view (follow decision weaker) wrong =
     ((wrong ≡ kind.NoOrder decision) × (Contains view.orders decision → ⊥))
     ⊎ (Contains view.orders decision × (wrong ≡ kind.NoConflict weaker) × (IsConflict network weaker.triple → ⊥))
     ⊎ (Contains view.orders decision × IsConflict network weaker.triple × AsksMore weaker (arc_of network weaker) (arc_of network decision) wrong)
+IsWrongMove network clauses view (fill link frame frames before after start) wrong =
+    IsWrongFilling network view link frame frames before after (natural (head_at network view link frame)) start wrong
+IsWrongMove network clauses view (fill_back link frame frames before after finish) wrong =
+    IsWrongFilling network view link frame frames before after (suc finish - separation network frame.stream link)
+    (suc (natural (end_at network view link frame)) - separation network frame.stream link) wrong
+IsWrongMove network clauses view (waste link frames fixed) wrong =
+    AreWrongOn network link frames wrong
+    ⊎ (AreOn network link frames × IsWrongTurn network view link frames (natural (first_head network view link frames)) fixed wrong)
+    ⊎ (AreOn network link frames × All (Contains frames) fixed × AreInTurn network view link (natural (first_head network view link frames)) fixed
+    × IsFilled network view link frames fixed wrong)
 
 -- behind others the move comes on an impossible view, or is wrong on the view there
 abbrev pub IsWrongNext : Network → List (List model.Fact) → View → List model.Move → model.Move → Wrong → Type 0

@@ -8,6 +8,8 @@ pub mod Frames
 pub mod State
 pub mod Motion
 pub mod Loads
+pub mod Rooms
+pub mod Fillings
 pub mod Steps
 pub mod Aims
 pub mod Laws

@@ -3,12 +3,14 @@
 
 mod aim;
 mod decided;
+mod filling;
 pub mod laws;
 mod link;
 mod motion;
 mod news;
 mod numbers;
 mod observer;
+mod room;
 mod seen;
 mod step;
 mod uses;

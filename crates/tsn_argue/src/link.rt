@@ -103,7 +103,7 @@ pub fn judge_choice(frames: &Seen, some: &[Frame], seen: &mut Seen) -> Result<()
 }
 
 /// Whether the two are one frame.
-fn is_same(one: Frame, other: Frame) -> bool
+pub fn is_same(one: Frame, other: Frame) -> bool
     ensures { MatchBool result (one ≡ other) (one ≡ other → ⊥) }
 {
     one == other
@@ -160,7 +160,7 @@ impl Load {
 }
 
 /// What one frame comes to.
-fn load_of(view: &View<'_>, link: usize, frame: Frame) -> Load
+pub fn load_of(view: &View<'_>, link: usize, frame: Frame) -> Load
     requires sound { IsSound view.now }
     requires possible { view.now.crossed ≡ false }
     requires on { IsFrameOn view.now.timing.now link frame }

@@ -4,22 +4,23 @@ ghost use Rattle.tsn_model.specs.Network.{stream_count};
 ghost use Rattle.tsn_model.specs.Schedule.{IsConflict};
 ghost use Rattle.tsn_model.specs.Arcs.{arc_of as model_arc_of};
 ghost use Rattle.tsn_timing.specs.Arcs.{IsSmall};
-ghost use Rattle.tsn_model.specs.Argument.{IsFact, low_at, high_at, go, turn, apply, arrive, put_last, put_first, pack, round, follow, refuting, left_open};
+ghost use Rattle.tsn_model.specs.Argument.{IsFact, low_at, high_at, go, turn, apply, arrive, put_last, put_first, pack, round, follow, fill, fill_back, waste, refuting, left_open};
 ghost use Rattle.tsn_cert.specs.Order.{decision_of};
 ghost use Rattle.tsn_cert.specs.Fact.{clause_of};
-ghost use Rattle.tsn_cert.specs.Move.{move_of};
+ghost use Rattle.tsn_cert.specs.Move.{move_of, edge_of};
 ghost use Rattle.tsn_argue.specs.State.{view_of, IsSound};
 ghost use Rattle.tsn_argue.specs.News.{news_of};
 ghost use Rattle.tsn_argue.specs.Faults.{AreAlike};
 ghost use Rattle.tsn_argue.specs.Loads.{ShowsWithout};
 ghost use Rattle.tsn_argue.specs.Motion.{facts_of, clauses_of, AreFacts, JudgesMove, Judges, FindsUnit, FindsPlacing, FindsRound, FindsArc};
 
+use crate::filling::{judge_filling, lost_in};
 use crate::link::{judge_choice, judge_frames, load_all, load_with, visit_of};
 use crate::news::{News, turned};
 use crate::seen::Marks;
 use crate::uses::{Reader, Use};
 use crate::view::View;
-use tsn_cert::{Clause, Fact, Move, Order, Placing};
+use tsn_cert::{Clause, Fact, Filling, Move, Order, Placing, Wasting};
 use tsn_check::Wrong;
 use tsn_model::{Arc, Decision, Frame};
 use tsn_timing::{Timing, arc_of, is_conflict};
@@ -139,6 +140,9 @@ pub fn judge(
         Move::Pack(link, frames) => judge_pack(&basis, *link, frames.list(), marks),
         Move::Round(orders) => judge_round(&basis, orders.list()),
         Move::Follow(known, weaker) => judge_follow(&basis, known.decision(), weaker.decision()),
+        Move::Fill(filling) => judge_fill(&basis, filling, marks),
+        Move::FillBack(filling) => judge_fill_back(&basis, filling, marks),
+        Move::Waste(wasting) => judge_waste(&basis, wasting, marks),
     }
 }
 
@@ -261,7 +265,7 @@ fn judge_arrive(basis: &Basis<'_>, stream: usize) -> Result<Shown, Wrong>
 fn judge_placed(timing: &Timing, placing: &Placing, marks: &mut Marks) -> Result<(), Wrong>
     ensures { FindsPlacing timing.now placing.now result }
 {
-    let Marks { others, some } = marks;
+    let Marks { others, some, .. } = marks;
     judge_frames(
         timing,
         placing.link,
@@ -356,6 +360,51 @@ fn judge_pack(
     let all = load_all(view, link, frames);
     let bound = all.head + all.work as i128;
     shown_without(link, bound, all.end, false, refuting(basis))
+}
+
+/// The frame begins no earlier, since sums of works leave too much at each place before.
+#[tactic(auto, unfolding(tsn_model::specs::Argument::shown))]
+fn judge_fill(basis: &Basis<'_>, filling: &Filling, marks: &mut Marks) -> Result<Shown, Wrong>
+    requires sound { IsSound basis.now.view.now }
+    requires possible { basis.now.view.now.crossed ≡ false }
+    ensures { Judges basis.now (fill filling.now.link filling.now.frame filling.now.others (edge_of filling.now.before) (edge_of filling.now.after) filling.now.bound) result }
+{
+    let view = basis.view;
+    judge_filling(view, filling, false, marks)?;
+    let visit = visit_of(view.timing, filling.link, filling.frame);
+    let least = filling.bound as i128 - visit.begin as i128;
+    Ok(basis.one(News::From(filling.frame.stream, least)))
+}
+
+/// The frame ends no later, since sums of works leave too much at each place behind.
+#[tactic(auto, unfolding(tsn_model::specs::Argument::shown))]
+fn judge_fill_back(basis: &Basis<'_>, filling: &Filling, marks: &mut Marks) -> Result<Shown, Wrong>
+    requires sound { IsSound basis.now.view.now }
+    requires possible { basis.now.view.now.crossed ≡ false }
+    ensures { Judges basis.now (fill_back filling.now.link filling.now.frame filling.now.others (edge_of filling.now.before) (edge_of filling.now.after) filling.now.bound) result }
+{
+    let view = basis.view;
+    judge_filling(view, filling, true, marks)?;
+    let visit = visit_of(view.timing, filling.link, filling.frame);
+    let most = filling.bound as i128 - (visit.begin + visit.work) as i128;
+    Ok(basis.one(News::Until(filling.frame.stream, most)))
+}
+
+/// Whether the frames leave more of their rooms than they may.
+#[tactic(auto, unfolding(tsn_model::specs::Argument::shown))]
+fn judge_waste(basis: &Basis<'_>, wasting: &Wasting, marks: &mut Marks) -> Result<Shown, Wrong>
+    requires sound { IsSound basis.now.view.now }
+    requires possible { basis.now.view.now.crossed ≡ false }
+    ensures { Judges basis.now (waste wasting.now.link wasting.now.frames wasting.now.fixed) result }
+{
+    let view = basis.view;
+    let link = wasting.link;
+    let (lost, idle) = lost_in(view, wasting, marks)?;
+    if idle < lost {
+        Ok(basis.one(refuting(basis)))
+    } else {
+        Err(Wrong::Filled { link, lost, idle })
+    }
 }
 
 /// Whether the orders lead back to where they begin, and later than they began.
@@ -484,6 +533,11 @@ pub fn read_first<R: Reader>(reader: &mut R, view: &View<'_>, clauses: &[&Clause
         Move::Pack(_, frames) => read_frames(reader, frames.list()),
         Move::Round(orders) => read_orders(reader, orders.list()),
         Move::Follow(known, _) => reader.read(Use::order(*known)),
+        Move::Fill(filling) | Move::FillBack(filling) => {
+            read_frames(reader, &[filling.frame]);
+            read_frames(reader, filling.others.list());
+        }
+        Move::Waste(wasting) => read_frames(reader, wasting.frames.list()),
     }
 }
 

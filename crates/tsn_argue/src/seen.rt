@@ -5,6 +5,7 @@ use indexmap::IndexSet;
 use std::alloc::{AllocError, Global};
 use std::marker::Model;
 use tsn_model::{Frame, NoMemory};
+use tsn_sums::Shelf;
 
 /// How many frames a list has at most.
 const MOST: usize = 65_536;
@@ -66,11 +67,14 @@ impl Seen {
     }
 }
 
-/// The frames of a move that were seen: those behind its first, and, of a placing, some of these.
+/// The frames of a move that were seen: those behind its first, and, of a placing, some of these; and what frames fill of a room, from
+/// its begin and from its end.
 #[derive(Drop)]
 pub struct Marks {
     pub others: Seen,
     pub some: Seen,
+    pub left: Shelf,
+    pub right: Shelf,
 }
 
 impl Marks {
@@ -79,6 +83,8 @@ impl Marks {
         Ok(Marks {
             others: Seen::none(alloc)?,
             some: Seen::none(alloc)?,
+            left: Shelf::none(alloc)?,
+            right: Shelf::none(alloc)?,
         })
     }
 }

@@ -5,14 +5,17 @@
 --     move_of                        what they mean
 use Rattle.serde_json.specs.Data.{Data}
 use Rattle.std.specs.List.{list_all}
-use Rattle.std.specs.Prelude.{ℕ, List, [], ◌∷◌, map, Bool, if◌then◌else◌, ◌&&◌, ◌==◌, nat_le, codes, Option, Some}
+use Rattle.std.specs.Prelude.{ℕ, List, [], ◌∷◌, map, Bool, true, if◌then◌else◌, ◌&&◌, ◌==◌, nat_le, codes, Option, Some, None}
 use Rattle.tsn_cert.specs.Cert.{shift, first_frame, max_number, frame_fits}
-use Rattle.tsn_cert.specs.Form.{Form, Row, number, made, becomes, either, array, next, over, one_of, list, few, number_row}
+use Rattle.tsn_cert.specs.Form.{Form, Row, number, made, becomes, either, array, next, over, over_or, one_of, list, few, number_row}
 use Rattle.tsn_cert.specs.Json.{number_value, array_value, worded_value}
+use Rattle.tsn_cert.specs.Plan.{max_time}
 use Rattle.tsn_cert.specs.Order.{order_row, order_form, orders_form, order_fits, order_items, order_value, orders_value, decision_of}
 use Rattle.tsn_cert.specs.declared.motion.Move.TheVariants as form
 use Rattle.tsn_cert.specs.declared.motion.Move.{Move}
 use Rattle.tsn_cert.specs.declared.motion.Placing.{Placing}
+use Rattle.tsn_cert.specs.declared.motion.Filling.{Filling}
+use Rattle.tsn_cert.specs.declared.motion.Wasting.{Wasting}
 use Rattle.tsn_cert.specs.declared.order.Order.{Order}
 use Rattle.tsn_model.specs.Argument as model
 use Rattle.tsn_model.specs.declared.Frame.{Frame}
@@ -62,6 +65,65 @@ placing_fits p = nat_le p.link max_number && frame_fits p.frame && list_all fram
 abbrev pub placing_items : Placing → List Data
 placing_items p = number_value p.link ∷ frame_value p.frame ∷ frames_value p.others ∷ frames_value p.some ∷ []
 
+-- ---- rooms
+
+-- an empty array, for that of all the frames, or a frame
+abbrev pub edge_form : Form (Option Frame)
+edge_form = either (made (λ i. Some (Some (first_frame i))) number) (array (over_or None (becomes Some later_row)))
+
+abbrev pub edge_in : Data → Option (Option Frame)
+edge_in = edge_form.said
+
+abbrev pub edge_fits : Option Frame → Bool
+edge_fits None = true
+edge_fits (Some f) = frame_fits f
+
+abbrev pub edge_value : Option Frame → Data
+edge_value None = array_value []
+edge_value (Some f) = frame_value f
+
+abbrev pub edge_of : Option Frame → model.Edge
+edge_of None = model.outermost
+edge_of (Some f) = model.beside f
+
+-- a link, a frame, others, where the room begins and ends, and a time
+abbrev pub filling_row : Row Filling
+filling_row =
+    next number (λ l. next frame_form (λ f. next frames_form (λ os. next edge_form (λ b. next edge_form (λ a. next number (λ v. over (
+    record { link = l; frame = f; others = os; before = b; after = a; bound = v }
+    )))))))
+
+abbrev pub filling_parts : List Data → Option Filling
+filling_parts = filling_row.parts
+
+abbrev pub filling_fits : Filling → Bool
+filling_fits p =
+    nat_le p.link max_number && frame_fits p.frame && list_all frame_fits p.others && edge_fits p.before && edge_fits p.after && nat_le p.bound max_time
+
+abbrev pub filling_items : Filling → List Data
+filling_items p =
+    number_value p.link ∷ frame_value p.frame ∷ frames_value p.others ∷ edge_value p.before ∷ edge_value p.after ∷ number_value p.bound ∷ []
+
+-- any number of frames
+abbrev pub fixed_form : Form (List Frame)
+fixed_form = list frame_form
+
+abbrev pub fixed_in : Data → Option (List Frame)
+fixed_in = fixed_form.said
+
+-- a link, frames, and those of them that can't move
+abbrev pub wasting_row : Row Wasting
+wasting_row = next number (λ l. next frames_form (λ fs. next fixed_form (λ cs. over (record { link = l; frames = fs; fixed = cs }))))
+
+abbrev pub wasting_parts : List Data → Option Wasting
+wasting_parts = wasting_row.parts
+
+abbrev pub wasting_fits : Wasting → Bool
+wasting_fits p = nat_le p.link max_number && list_all frame_fits p.frames && list_all frame_fits p.fixed
+
+abbrev pub wasting_items : Wasting → List Data
+wasting_items p = number_value p.link ∷ frames_value p.frames ∷ frames_value p.fixed ∷ []
+
 -- ---- moves
 
 -- a link and frames
@@ -88,6 +150,9 @@ motions =
     ∷ (codes "pack", becomes (λ p. form.Pack p.0 p.1) pack_row)
     ∷ (codes "round", becomes form.Round round_row)
     ∷ (codes "follow", becomes (λ p. form.Follow p.0 p.1) follow_row)
+    ∷ (codes "fill", becomes form.Fill filling_row)
+    ∷ (codes "fill_back", becomes form.FillBack filling_row)
+    ∷ (codes "waste", becomes form.Waste wasting_row)
     ∷ []
 
 abbrev pub move_form : Form Move
@@ -112,6 +177,9 @@ move_fits (form.First placing) = placing_fits placing
 move_fits (form.Pack link frames) = nat_le link max_number && list_all frame_fits frames
 move_fits (form.Round orders) = list_all order_fits orders
 move_fits (form.Follow known weaker) = order_fits known && order_fits weaker
+move_fits (form.Fill filling) = filling_fits filling
+move_fits (form.FillBack filling) = filling_fits filling
+move_fits (form.Waste wasting) = wasting_fits wasting
 
 abbrev pub move_value : Move → Data
 move_value (form.Go order) = worded_value (codes "go") (order_items order)
@@ -123,6 +191,9 @@ move_value (form.First placing) = worded_value (codes "first") (placing_items pl
 move_value (form.Pack link frames) = worded_value (codes "pack") (number_value link ∷ frames_value frames ∷ [])
 move_value (form.Round orders) = worded_value (codes "round") (orders_value orders ∷ [])
 move_value (form.Follow known weaker) = worded_value (codes "follow") (order_value known ∷ order_value weaker ∷ [])
+move_value (form.Fill filling) = worded_value (codes "fill") (filling_items filling)
+move_value (form.FillBack filling) = worded_value (codes "fill_back") (filling_items filling)
+move_value (form.Waste wasting) = worded_value (codes "waste") (wasting_items wasting)
 
 abbrev pub moves_value : List Move → Data
 moves_value moves = array_value (map move_value moves)
@@ -137,3 +208,6 @@ move_of (form.First placing) = model.put_first placing.link placing.frame placin
 move_of (form.Pack link frames) = model.pack link frames
 move_of (form.Round orders) = model.round (map decision_of orders)
 move_of (form.Follow known weaker) = model.follow (decision_of known) (decision_of weaker)
+move_of (form.Fill f) = model.fill f.link f.frame f.others (edge_of f.before) (edge_of f.after) f.bound
+move_of (form.FillBack f) = model.fill_back f.link f.frame f.others (edge_of f.before) (edge_of f.after) f.bound
+move_of (form.Waste w) = model.waste w.link w.frames w.fixed

@@ -29,7 +29,7 @@ pub use fault::FileFault;
 pub use leaf::{Leaf, LowerBound};
 pub use limited::Limited;
 pub use listed::{Listed, Sequence};
-pub use motion::{Frames, Move, Moves, Placing};
+pub use motion::{Edge, Filling, Frames, Move, Moves, Placing, Wasting};
 pub use order::{Order, Orders};
 pub use plan::{Offsets, Plan};
 pub use refused::{Excess, Key, Misfit, Part, Refused};

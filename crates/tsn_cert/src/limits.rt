@@ -1,6 +1,7 @@
 //! Whether lags and frames are within the limits of a file.
 ghost use Rattle.std.specs.Prelude.{◌≡◌};
 ghost use Rattle.tsn_cert.specs.Cert.{lag_fits, frame_fits};
+ghost use Rattle.tsn_cert.specs.Move.{edge_fits};
 
 use crate::chain::MAX_NUMBER;
 use crate::limited::Limited;
@@ -24,6 +25,16 @@ pub fn frame_fits(frame: Frame) -> bool
     ensures { result ≡ frame_fits frame }
 {
     frame.stream <= MAX_NUMBER && frame.shift <= MAX_SHIFT
+}
+
+/// Whether the numbers of the frame, if there is one, are within their limit.
+pub fn edge_fits(edge: Option<Frame>) -> bool
+    ensures { result ≡ edge_fits edge }
+{
+    match edge {
+        Some(frame) => frame_fits(frame),
+        None => true,
+    }
 }
 
 impl Limited for Frame {

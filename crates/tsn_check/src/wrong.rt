@@ -65,6 +65,21 @@ pub enum Wrong {
         end: i128,
         of_others: bool,
     },
+    /// The frame can still move.
+    Movable(Frame),
+    /// On the link of this number the frame may begin at this place, so far as sums of works tell.
+    Open {
+        link: usize,
+        place: u64,
+    },
+    /// The frame doesn't begin behind the ones before it.
+    OutOfTurn(Frame),
+    /// On the link of this number the frames leave no more of their rooms than they may be idle there.
+    Filled {
+        link: usize,
+        lost: u64,
+        idle: u64,
+    },
 }
 
 impl Wrong {
@@ -85,7 +100,11 @@ impl Wrong {
             | Wrong::InReach { .. }
             | Wrong::OfOthers
             | Wrong::Stronger { .. }
-            | Wrong::Room { .. } => CheckFault::BoundTooLow(step),
+            | Wrong::Room { .. }
+            | Wrong::Movable(_)
+            | Wrong::Open { .. }
+            | Wrong::OutOfTurn(_)
+            | Wrong::Filled { .. } => CheckFault::BoundTooLow(step),
             Wrong::Repeated(_) => CheckFault::StreamRepeated(step),
             Wrong::NoStream(_) | Wrong::NotOnLink { .. } | Wrong::NoFrame(_) => {
                 CheckFault::NotOnLink(step)

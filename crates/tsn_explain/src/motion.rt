@@ -6,7 +6,7 @@ use crate::network::sides;
 use crate::words::{Frames, Grouped};
 use std::alloc::{AllocError, Global};
 use tsn_argue::{News, Shown, View, turned};
-use tsn_cert::{Fact, Move, Order, Placing};
+use tsn_cert::{Fact, Filling, Move, Order, Placing, Wasting};
 use tsn_model::{Decision, Frame};
 
 impl Mentions {
@@ -23,6 +23,11 @@ impl Mentions {
             Move::Pack(link, frames) => self.add_frames(*link, frames.list()),
             Move::Round(orders) => self.add_orders(orders.list()),
             Move::Follow(known, weaker) => self.add_orders(&[*known, *weaker]),
+            Move::Fill(filling) | Move::FillBack(filling) => {
+                self.add_frame(filling.link, filling.frame);
+                self.add_frames(filling.link, filling.others.list())
+            }
+            Move::Waste(wasting) => self.add_frames(wasting.link, wasting.frames.list()),
         }
     }
 }
@@ -55,11 +60,14 @@ impl Narrator<'_, '_> {
             Move::Use(number) => self.push_use(told, *number),
             Move::Pack(link, frames) => self.push_pack(told.view, *link, frames.list()),
             Move::Round(orders) => self.push_closed(orders.list()),
+            Move::Waste(wasting) => self.push_waste(wasting),
             _ if !told.has_first() => {}
             Move::Turn(order) => self.push_turn(told, order.decision()),
             Move::Last(placing) => self.push_placing(told, placing, true),
             Move::First(placing) => self.push_placing(told, placing, false),
             Move::Follow(known, _) => self.push_follow(told, *known),
+            Move::Fill(filling) => self.push_fill(told, filling, true),
+            Move::FillBack(filling) => self.push_fill(told, filling, false),
             Move::Arrive(_) => {}
         }
     }
@@ -237,6 +245,47 @@ impl Narrator<'_, '_> {
         let end = Grouped(load.end);
         self.writer.say(format_args!(
             ", and {last}has to be through by {end}, which is {soon} ns too soon"
+        ))
+    }
+
+    // Writes from when on a frame begins, or until when it ends, and why.
+    fn push_fill(&mut self, told: &Told<'_, '_>, filling: &Filling, is_begin: bool) {
+        let Filling {
+            link,
+            frame,
+            bound,
+            ..
+        } = *filling;
+        self.push_then();
+        let network = self.writer.network;
+        let (from, to) = network.ends(link);
+        let frames = [frame];
+        let (name, others) = (
+            Frames(network, &frames),
+            Frames(network, filling.others.list()),
+        );
+        let place = if is_begin {
+            "begins before"
+        } else {
+            "ends after"
+        };
+        let bound = Grouped(bound as i128);
+        self.writer.say(format_args!(
+            "on link {link}, {from} to {to}, where {name} {place} {bound}, sums of works of it and {others} leave more before and behind it than they may. So "
+        ));
+        self.writer.push_fact(told.shown.first);
+        self.push_clash(told.view, told.shown.first);
+    }
+
+    // Writes that frames leave more of their rooms on a link than they may.
+    fn push_waste(&mut self, wasting: &Wasting) {
+        self.push_then();
+        let link = wasting.link;
+        let network = self.writer.network;
+        let (from, to) = network.ends(link);
+        let names = Frames(network, wasting.frames.list());
+        self.writer.say(format_args!(
+            "on link {link}, {from} to {to}, sums of works of {names} leave more between those that can't move than they may"
         ))
     }
 

@@ -55,7 +55,7 @@ module _ (network : Network) (formed : IsWellFormed network) (offsets : List ℕ
       omega (arith, ints, above, is_last, fits)
 
   module _ (view : View) (fits : Fits network offsets view) where
-    heads_below : (frames : List Frame) → All (IsFrameOn network link) frames → All (λ i. first_head network view link frames ≤ℤ pos (begin_of i)) frames
+    pub heads_below : (frames : List Frame) → All (IsFrameOn network link) frames → All (λ i. first_head network view link frames ≤ℤ pos (begin_of i)) frames
     unfolding first_head head_at begin_on
     heads_below frames on_link k d below =
         let i = get_or frames k d in
@@ -64,7 +64,7 @@ module _ (network : Network) (formed : IsWellFormed network) (offsets : List ℕ
         let low = fits.low i.stream (UsesLink-counted network i.stream link (on_link k d below).uses) in
         omega (arith, ints, head, low)
 
-    ends_above : (frames : List Frame) → All (IsFrameOn network link) frames
+    pub ends_above : (frames : List Frame) → All (IsFrameOn network link) frames
         → All (λ i. pos (begin_of i + work i) ≤ℤ last_end network view link frames) frames
     unfolding last_end end_at end_on begin_on
     ends_above frames on_link k d below =

@@ -14,12 +14,13 @@ use Rattle.tsn_model.specs.Timing.{arrival}
 use Rattle.tsn_model.specs.Schedule.{IsValid, IsConflict, offset_of}
 use Rattle.tsn_model.specs.Arcs.{arc_between, arc_on, arc_of, Holds}
 use Rattle.tsn_model.specs.Certificate.{IsFrameOn}
-use Rattle.tsn_model.specs.Argument.{Fact, from, until, order, done_from, IsSo, SomeIsSo, turned, opposite, View, low_at, high_at, Fits, learned_all, contradicts, left_open, unit_of, Move, go, turn, apply, arrive, put_last, put_first, pack, round, follow, LeadsBy, weight_by, IsOutOfReach, AsksNoMore, clause_at, IsAllowed, shown_by, shown, narrowed, AreAllowed}
+use Rattle.tsn_model.specs.Argument.{Fact, from, until, order, done_from, IsSo, SomeIsSo, turned, opposite, View, low_at, high_at, Fits, learned_all, contradicts, left_open, unit_of, Move, go, turn, apply, arrive, put_last, put_first, pack, round, follow, fill, fill_back, waste, LeadsBy, weight_by, IsOutOfReach, AsksNoMore, clause_at, IsAllowed, shown_by, shown, narrowed, AreAllowed}
 use Rattle.tsn_model.proofs.Lists.{Contains-nil, Contains-cons_cases, Contains-filter}
 use Rattle.tsn_model.proofs.Routes.{UsesLink-counted}
 use Rattle.tsn_model.proofs.Schedules.{arrival-le-flowspan}
 use Rattle.tsn_model.proofs.ArgumentViews.{Fits-learned_all, either_way, contradicted}
 use Rattle.tsn_model.proofs.ArgumentLoads.{pack_sound, last_sound, first_sound}
+use Rattle.tsn_model.proofs.ArgumentRooms.{fill_sound, fill_back_sound, waste_sound}
 
 -- the streams of a conflict's arc are there
 pub arc_within : (network : Network) (triple : Triple) (side : Side) → IsConflict network triple
@@ -149,6 +150,18 @@ module _ (network : Network) (formed : IsWellFormed network) (offsets : List ℕ
         absurd (omega (arith, ints, rises, above))
     shown_sound clauses known (follow decision weaker) allowed =
         one_so network offsets (order weaker) (follow_sound decision weaker allowed.0 allowed.1 allowed.2)
+    shown_sound clauses known (fill link j frames before after start) allowed =
+        one_so network offsets (from j.stream _) (
+          UsesLink-counted network j.stream link (All-head (IsFrameOn network link) j frames allowed.0.on_link).uses,
+          fill_sound network formed offsets valid link view fits j frames allowed.0 before after allowed.1 allowed.2 start allowed.3,
+        )
+    shown_sound clauses known (fill_back link j frames before after finish) allowed =
+        one_so network offsets (until j.stream _) (
+          UsesLink-counted network j.stream link (All-head (IsFrameOn network link) j frames allowed.0.on_link).uses,
+          fill_back_sound network formed offsets valid link view fits j frames allowed.0 before after allowed.1 allowed.2 finish allowed.3,
+        )
+    shown_sound clauses known (waste link frames fixed) allowed =
+        absurd (waste_sound network formed offsets valid link view fits frames allowed.0 fixed allowed.1 allowed.2 allowed.3)
 
   -- offsets that fit a view fit it after right moves
   pub Fits-narrowed : (clauses : List (List Fact)) → All (SomeIsSo network offsets) clauses → (moves : List Move) (view : View)

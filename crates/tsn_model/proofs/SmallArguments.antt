@@ -24,12 +24,12 @@ uses : (cycle : ℕ) → UsesLink (star_network cycle) 0 4 × UsesLink (star_net
 unfolding stream_at route_of hop_on
 uses cycle = (refl, refl)
 
-forth : (cycle : ℕ) → IsWellFormed (star_network cycle) → AreOn (star_network cycle) 4 (first_frame 0 ∷ first_frame 1 ∷ [])
+pub forth : (cycle : ℕ) → IsWellFormed (star_network cycle) → AreOn (star_network cycle) 4 (first_frame 0 ∷ first_frame 1 ∷ [])
 forth cycle formed =
     two_on cycle (first_frame 0) (first_frame 1) (frames_differ 0 1 (λ same. omega arith)) (first_on cycle 0 formed (omega arith) (uses cycle).0)
     (first_on cycle 1 formed (omega arith) (uses cycle).1)
 
-back : (cycle : ℕ) → IsWellFormed (star_network cycle) → AreOn (star_network cycle) 4 (first_frame 1 ∷ first_frame 0 ∷ [])
+pub back : (cycle : ℕ) → IsWellFormed (star_network cycle) → AreOn (star_network cycle) 4 (first_frame 1 ∷ first_frame 0 ∷ [])
 back cycle formed =
     two_on cycle (first_frame 1) (first_frame 0) (frames_differ 1 0 (λ same. omega arith)) (first_on cycle 1 formed (omega arith) (uses cycle).1)
     (first_on cycle 0 formed (omega arith) (uses cycle).0)

@@ -4,12 +4,15 @@
 --     View, Fits, IsImpossible, IsBounded          what is known of the offsets
 --     learned, refuting, contradicts               a view with one more fact
 --     first_head, last_end, work_on, AreOn, AreSome     frames on a link
+--     reaches, filled, wasted, common_divisor, arranged, staged     what works fill of a room
+--     unit_on, idle_on, works_left, works_right, left_over, right_over     what frames fill and leave of a room on a link
+--     Edge, IsFixed, IsEdge, left_edge, right_edge, IsShut, AreInTurn, lost     rooms on a link
 --     Move, AsksNoMore, IsAllowed, shown                       a move: when it may be made, and the facts that it shows
 --     narrowed, AreAllowed                         moves one after another
 --     first_ground, settled                        the view that every schedule in question fits
 --     Step, Known, IsRight, known_after            a step: what makes it right, and what is known after it
 --     IsSettled, Argues                            what makes an argument right
-use Rattle.std.specs.Prelude.{◌≡◌, ◌≢◌, ℕ, ◌≤◌, ◌<◌, ◌⊎◌, List, [], ◌∷◌, ◌++◌, map, length, slice_index_or, slice_set, ℤ, pos, ◌+ℤ◌, ◌-ℤ◌, ◌≤ℤ◌, ◌<ℤ◌, int_lt, int_le, Bool, not, if◌then◌else◌, filter, fold, sum_by, All, AllPairs, Contains}
+use Rattle.std.specs.Prelude.{◌≡◌, ◌≢◌, ℕ, zero, suc, ◌+◌, ◌-◌, ◌*◌, ◌%◌, ◌≤◌, ◌<◌, ◌⊎◌, List, [], ◌∷◌, ◌++◌, map, length, slice_index_or, slice_set, ℤ, pos, negsuc, ◌+ℤ◌, ◌-ℤ◌, ◌≤ℤ◌, ◌<ℤ◌, int_lt, int_le, min, leb, cond, Bool, true, false, not, if◌then◌else◌, filter, fold, sum_by, All, AllPairs, Contains}
 use Rattle.std.specs.List.{range_with_len, list_any}
 use Rattle.std.specs.Int.{int_min, int_max}
 use Rattle.tsn_model.specs.declared.Frame.{Frame}
@@ -200,9 +203,133 @@ pub record AreSome (frames some : List Frame) : Type 0 where
   pub different : AllPairs ◌≢◌ some
   pub among : All (Contains frames) some
 
+-- ---- rooms on a link
+
+-- the number, or 0 where it is lower
+unfoldable pub natural : ℤ → ℕ
+natural (pos n) = n
+natural (negsuc n) = 0
+
+-- whether some of the works, each once, add up to the amount; each stands with the least that those after it in the list have to add up to
+unfoldable pub reaches : List (ℕ × ℕ) → ℕ → Bool
+reaches [] amount = leb amount 0
+reaches (work ∷ works) amount = cond (reaches works amount) true (cond (leb (work.0 + work.1) amount) (reaches works (amount - work.1)) false)
+
+-- the most of the room that some of the works fill
+unfoldable pub filled : List (ℕ × ℕ) → ℕ → ℕ
+filled works zero = 0
+filled works (suc room) = cond (reaches works (suc room)) (suc room) (filled works room)
+
+-- the least of the room that they leave; of one that has more than 4,096 units nothing is said
+unfoldable pub wasted : ℕ → List (ℕ × ℕ) → ℕ → ℕ
+wasted unit works room = cond (leb room (4096 * unit)) (room - filled works room) 0
+
+-- the greatest common divisor, by Euclid's steps, of which there are no more than so many
+unfoldable pub divisor_within : ℕ → ℕ → ℕ → ℕ
+divisor_within zero a b = a
+divisor_within (suc steps) a zero = a
+divisor_within (suc steps) a (suc b) = divisor_within steps (suc b) (a % suc b)
+
+unfoldable pub common_divisor : ℕ → ℕ → ℕ
+common_divisor a b = divisor_within (suc b) a b
+
+-- the elements by falling keys
+unfoldable pub inserted : {X : Type 0} → (X → ℕ) → X → List X → List X
+inserted key x [] = x ∷ []
+inserted key x (y ∷ ys) = cond (leb (key y) (key x)) (x ∷ y ∷ ys) (y ∷ inserted key x ys)
+
+unfoldable pub arranged : {X : Type 0} → (X → ℕ) → List X → List X
+arranged key [] = []
+arranged key (x ∷ xs) = inserted key x (arranged key xs)
+
+-- their works: by keys, which say how far from where the room begins each is at least, those that are nearer have to fill that but for the idle time
+unfoldable pub staged : {X : Type 0} → (X → ℕ) → (X → ℕ) → ℕ → ℕ → List X → List (ℕ × ℕ)
+staged key work idle least [] = []
+staged key work idle least (x ∷ xs) = (min least (key x) - idle, work x) ∷ staged key work idle (min least (key x)) xs
+
+-- the greatest common divisor of the frames' works
+unfoldable pub unit_on : Network → ℕ → List Frame → ℕ
+unit_on network link frames = fold common_divisor 0 (map (λ frame. separation network frame.stream link) frames)
+
+-- how long the link is idle between the frames' first head and their last end
+unfoldable pub idle_on : Network → View → ℕ → List Frame → ℕ
+idle_on network view link frames = natural (last_end network view link frames) - (natural (first_head network view link frames) + work_on network link frames)
+
+-- by the view's numbers the frame may be on the link between the two instants
+unfoldable pub may_lie : Network → View → ℕ → ℕ → ℕ → Frame → Bool
+may_lie network view link low high frame =
+    cond (leb (low + separation network frame.stream link) (natural (end_at network view link frame)))
+    (leb (natural (head_at network view link frame) + separation network frame.stream link) high) false
+
+-- how far from the room's begin or end the frame is at least, where it is there
+unfoldable pub from_left : Network → View → ℕ → ℕ → Frame → ℕ
+from_left network view link low frame = natural (head_at network view link frame) - low
+
+unfoldable pub from_right : Network → View → ℕ → ℕ → Frame → ℕ
+from_right network view link high frame = high - natural (end_at network view link frame)
+
+-- the works of the frames that may be there, in the order in which they fill the room from its begin, or from its end
+unfoldable pub works_left : Network → View → ℕ → List Frame → ℕ → ℕ → List (ℕ × ℕ)
+works_left network view link frames low high =
+    staged (from_left network view link low) (λ frame. separation network frame.stream link) (idle_on network view link frames) (high - low)
+    (arranged (from_left network view link low) (filter (may_lie network view link low high) frames))
+
+unfoldable pub works_right : Network → View → ℕ → List Frame → ℕ → ℕ → List (ℕ × ℕ)
+works_right network view link frames low high =
+    staged (from_right network view link high) (λ frame. separation network frame.stream link) (idle_on network view link frames) (high - low)
+    (arranged (from_right network view link high) (filter (may_lie network view link low high) frames))
+
+-- what the frames leave at least of so much of the room from its begin, or from its end
+unfoldable pub left_over : Network → View → ℕ → List Frame → ℕ → ℕ → ℕ → ℕ
+left_over network view link frames low high room = wasted (unit_on network link frames) (works_left network view link frames low high) room
+
+unfoldable pub right_over : Network → View → ℕ → List Frame → ℕ → ℕ → ℕ → ℕ
+right_over network view link frames low high room = wasted (unit_on network link frames) (works_right network view link frames low high) room
+
+-- the frame can't move any more
+abbrev pub IsFixed : View → Frame → Type 0
+IsFixed view frame = high_at view frame.stream ≤ℤ low_at view frame.stream
+
+-- where a room on a link begins or ends: where that of all the frames does, or at a frame that can't move
+pub data Edge : Type 0 where
+  outermost : Edge
+  beside : Frame → Edge
+
+abbrev pub IsEdge : View → List Frame → Edge → Type 0
+IsEdge view frames outermost = Unit {0}
+IsEdge view frames (beside frame) = Contains frames frame × IsFixed view frame
+
+unfoldable pub left_edge : Network → View → ℕ → List Frame → Edge → ℕ
+left_edge network view link frames outermost = natural (first_head network view link frames)
+left_edge network view link frames (beside frame) = natural (end_at network view link frame)
+
+unfoldable pub right_edge : Network → View → ℕ → List Frame → Edge → ℕ
+right_edge network view link frames outermost = natural (last_end network view link frames)
+right_edge network view link frames (beside frame) = natural (head_at network view link frame)
+
+-- in the room from low to high, where it would be, work of the frames that begins at x would leave more before and after it than all the idle time
+pub record IsShut (network : Network) (view : View) (link : ℕ) (frames : List Frame) (low high work x : ℕ) : Type 0 where
+  pub begin : low ≤ x
+  pub end : x + work ≤ high
+  pub full : idle_on network view link frames
+      < left_over network view link frames low high (x - low) + right_over network view link frames low high (high - (x + work))
+
+-- frames that can't move, one after another from low on
+abbrev pub AreInTurn : Network → View → ℕ → ℕ → List Frame → Type 0
+AreInTurn network view link low [] = Unit {0}
+AreInTurn network view link low (frame ∷ frames) =
+    IsFixed view frame × (low ≤ natural (head_at network view link frame)) × AreInTurn network view link (natural (end_at network view link frame)) frames
+
+-- what the frames leave at least of the rooms between these
+unfoldable pub lost : Network → View → ℕ → List Frame → ℕ → ℕ → List Frame → ℕ
+lost network view link frames low high [] = left_over network view link frames low high (high - low)
+lost network view link frames low high (frame ∷ fixed) =
+    left_over network view link frames low (natural (head_at network view link frame)) (natural (head_at network view link frame) - low)
+    + lost network view link frames (natural (end_at network view link frame)) high fixed
+
 -- ---- moves
 
--- the forms of a move: by a decision's arc, by a decision's arc that can't be met, by a clause, by an arrival; a frame goes last or first of some on a link, some don't fit on it, or decisions go round; one decision follows from another
+-- the forms of a move: by a decision's arc, by a decision's arc that can't be met, by a clause, by an arrival; a frame goes last or first of some on a link, some don't fit on it, or decisions go round; one decision follows from another; a frame finds its first or last place in a room, or frames leave more of their rooms than they may
 pub data Move : Type 0 where
   go : Decision → Move
   turn : Decision → Move
@@ -213,6 +340,9 @@ pub data Move : Type 0 where
   pack : ℕ → List Frame → Move
   round : List Decision → Move
   follow : Decision → Decision → Move
+  fill : ℕ → Frame → List Frame → Edge → Edge → ℕ → Move
+  fill_back : ℕ → Frame → List Frame → Edge → Edge → ℕ → Move
+  waste : ℕ → List Frame → List Frame → Move
 
 -- the arcs of the decisions lead from one stream to another
 abbrev pub LeadsBy : Network → ℕ → List Decision → ℕ → Type 0
@@ -252,6 +382,21 @@ IsAllowed network clauses view (pack link frames) = AreOn network link frames ×
 IsAllowed network clauses view (round decisions) = All (Contains view.orders) decisions × ((i : ℕ) × LeadsBy network i decisions i) × (pos 0 <ℤ weight_by network decisions)
 IsAllowed network clauses view (follow decision weaker) =
     Contains view.orders decision × IsConflict network weaker.triple × AsksNoMore (arc_of network weaker) (arc_of network decision)
+IsAllowed network clauses view (fill link frame frames before after start) =
+    AreOn network link (frame ∷ frames) × IsEdge view frames before × IsEdge view frames after
+    × ((x : ℕ) → natural (head_at network view link frame) ≤ x → x < start
+    → IsShut network view link (frame ∷ frames) (left_edge network view link (frame ∷ frames) before) (right_edge network view link (frame ∷ frames) after)
+    (separation network frame.stream link) x)
+IsAllowed network clauses view (fill_back link frame frames before after finish) =
+    AreOn network link (frame ∷ frames) × IsEdge view frames before × IsEdge view frames after
+    × ((x : ℕ) → finish < x + separation network frame.stream link → x + separation network frame.stream link ≤ natural (end_at network view link frame)
+    → IsShut network view link (frame ∷ frames) (left_edge network view link (frame ∷ frames) before) (right_edge network view link (frame ∷ frames) after)
+    (separation network frame.stream link) x)
+IsAllowed network clauses view (waste link frames fixed) =
+    AreOn network link frames × All (Contains frames) fixed
+    × AreInTurn network view link (natural (first_head network view link frames)) fixed
+    × (idle_on network view link frames
+    < lost network view link frames (natural (first_head network view link frames)) (natural (last_end network view link frames)) fixed)
 
 -- what an arc shows of the streams where it begins and ends
 unfoldable pub shown_by : View → Arc → List Fact
@@ -270,6 +415,9 @@ shown network clauses view (put_first link frame frames some) =
 shown network clauses view (pack link frames) = refuting view ∷ []
 shown network clauses view (round decisions) = refuting view ∷ []
 shown network clauses view (follow decision weaker) = order weaker ∷ []
+shown network clauses view (fill link frame frames before after start) = from frame.stream (pos start -ℤ pos (begin_on network link frame)) ∷ []
+shown network clauses view (fill_back link frame frames before after finish) = until frame.stream (pos finish -ℤ pos (end_on network link frame)) ∷ []
+shown network clauses view (waste link frames fixed) = refuting view ∷ []
 
 -- the view after some moves
 unfoldable pub narrowed : Network → List (List Fact) → View → List Move → View

@@ -1,23 +1,23 @@
 //! Moves of an argument, and their frames, read and printed.
-ghost use Rattle.std.specs.Prelude.{◌≡◌, drop, IfOk, OnOk, Some};
+ghost use Rattle.std.specs.Prelude.{◌≡◌, drop, IfOk, OnOk, Some, None};
 ghost use Rattle.std.specs.List.{list_any};
 ghost use Rattle.serde_json.specs.View.{view};
 ghost use Rattle.tsn_cert.specs.declared.motion.Move.TheVariants as form;
-ghost use Rattle.tsn_cert.specs.Form.{becomes, row_of};
+ghost use Rattle.tsn_cert.specs.Form.{becomes, over_or, row_of};
 ghost use Rattle.tsn_cert.specs.Json.{worded_value};
-ghost use Rattle.tsn_cert.specs.Move.{later_row, frame_form, frame_value, frames_form, frames_of, frames_value, placing_row, placing_parts, placing_items, pack_row, round_row, follow_row, motions, move_form, move_in, move_value};
+ghost use Rattle.tsn_cert.specs.Move.{later_row, frame_form, frame_value, frames_form, frames_of, frames_value, edge_form, edge_in, edge_value, filling_row, filling_parts, filling_items, fixed_form, fixed_in, wasting_row, placing_row, placing_parts, placing_items, pack_row, round_row, follow_row, motions, move_form, move_in, move_value};
 ghost use Rattle.tsn_codec.specs.ArgumentSays.{frame_element, move_element};
 ghost use Rattle.tsn_codec.specs.Matter.{order_lags, move_lags};
 ghost use Rattle.tsn_codec.specs.Takes.{Takes};
 
 use crate::argument::parts::{last_number, order, order_behind, orders, orders_value, worded};
 use crate::document;
-use crate::list::{Element, array_of, few};
+use crate::list::{Element, array_of, few, list};
 use crate::tokens::{Tokens, Unread};
 use serde_json::{ToValue, Value};
 use std::alloc::{AllocError, Global};
 use tsn_cert::motion::MAX_FRAMES;
-use tsn_cert::{Frames, Move, Order, Orders, Placing};
+use tsn_cert::{Edge, Filling, Frames, Move, Order, Orders, Placing, Sequence, Wasting};
 use tsn_model::Frame;
 
 // ---- frames
@@ -86,6 +86,58 @@ fn frames_value(alloc: Global, frames: &Frames) -> Result<Value, AllocError>
     array_of::<Frame>(alloc, frames.list())
 }
 
+// A frame where a room begins or ends, if there is one.
+fn edge(tokens: &mut Tokens<'_>) -> Result<Edge, Unread>
+    ensures { Takes (λ edge. edge) result (edge_form.taken tokens.old) tokens.new }
+{
+    match tokens.number_or_open()? {
+        Some(stream) => Ok(Some(Frame {
+            stream: stream as usize,
+            shift: 0,
+        })),
+        None => edge_behind(tokens),
+    }
+}
+
+// The same behind the bracket that opens an array.
+fn edge_behind(tokens: &mut Tokens<'_>) -> Result<Edge, Unread>
+    ensures { Takes (λ edge. edge) result ((over_or None (becomes Some later_row)).rest tokens.old) tokens.new }
+{
+    if tokens.take_end() {
+        Ok(None)
+    } else {
+        Ok(Some(later_frame(tokens)?))
+    }
+}
+
+#[tactic(auto, using(tsn_cert::proofs::MoveLemmas::edge_back))]
+fn edge_value(alloc: Global, edge: Edge) -> Result<Value, AllocError>
+    ensures value { IfOk result (λ v. view v ≡ edge_value edge) }
+    ensures reads_back { OnOk result (edge_in (edge_value edge) ≡ Some edge) }
+{
+    match edge {
+        Some(frame) => frame.print(alloc),
+        None => document::array(Ok(Vec::new(alloc))),
+    }
+}
+
+// Frames that can't move.
+#[tactic(auto, using(crate::proofs::Elements::map_same))]
+fn fixed(tokens: &mut Tokens<'_>) -> Result<Sequence<Frame>, Unread>
+    ensures { Takes (λ frames. frames) result (fixed_form.taken tokens.old) tokens.new }
+{
+    let found = list::<Frame>(tokens)?;
+    Ok(Sequence::of(found))
+}
+
+#[tactic(auto, using(crate::proofs::Elements::map_same))]
+fn fixed_value(alloc: Global, frames: &Sequence<Frame>) -> Result<Value, AllocError>
+    ensures value { IfOk result (λ v. view v ≡ frames_value frames.now) }
+    ensures reads_back { OnOk result (fixed_in (frames_value frames.now) ≡ Some frames.now) }
+{
+    array_of::<Frame>(alloc, frames.list())
+}
+
 // ---- what stands behind the word of a move
 
 // A link, a frame, others and some of these, with the end of their array.
@@ -134,6 +186,41 @@ fn follow(tokens: &mut Tokens<'_>) -> Result<Move, Unread>
     Ok(Move::Follow(known, weaker))
 }
 
+// A link, a frame, others, where the room begins and ends, and a time, with the end of their array.
+fn filling(tokens: &mut Tokens<'_>) -> Result<Filling, Unread>
+    ensures { Takes (λ filling. filling) result (filling_row.rest tokens.old) tokens.new }
+{
+    let link = tokens.index()?;
+    let frame = Frame::take(tokens)?;
+    let others = frames(tokens)?;
+    let before = edge(tokens)?;
+    let after = edge(tokens)?;
+    let bound = last_number(tokens)?;
+    Ok(Filling {
+        link,
+        frame,
+        others,
+        before,
+        after,
+        bound,
+    })
+}
+
+// A link, frames, and those that can't move, with the end of their array.
+fn wasting(tokens: &mut Tokens<'_>) -> Result<Wasting, Unread>
+    ensures { Takes (λ wasting. wasting) result (wasting_row.rest tokens.old) tokens.new }
+{
+    let link = tokens.index()?;
+    let frames = frames(tokens)?;
+    let fixed = fixed(tokens)?;
+    tokens.close_array()?;
+    Ok(Wasting {
+        link,
+        frames,
+        fixed,
+    })
+}
+
 // An array of a word and a placing.
 #[tactic(auto, using(tsn_cert::proofs::MoveLemmas::placing_back))]
 fn placing_behind(alloc: Global, word: &str, placing: &Placing) -> Result<Value, AllocError>
@@ -144,6 +231,30 @@ fn placing_behind(alloc: Global, word: &str, placing: &Placing) -> Result<Value,
     let items = document::with_item(items, placing.frame.print(alloc));
     let items = document::with_item(items, frames_value(alloc, &placing.others));
     document::array(document::with_item(items, frames_value(alloc, &placing.some)))
+}
+
+// An array of a word and a filling.
+#[tactic(auto, using(tsn_cert::proofs::MoveLemmas::filling_back))]
+fn filling_behind(alloc: Global, word: &str, filling: &Filling) -> Result<Value, AllocError>
+    ensures value { IfOk result (λ v. view v ≡ worded_value word.now (filling_items filling.now)) }
+    ensures reads_back { OnOk result (filling_parts (filling_items filling.now) ≡ Some filling.now) }
+{
+    let items = document::first_items(alloc, word, &[filling.link]);
+    let items = document::with_item(items, filling.frame.print(alloc));
+    let items = document::with_item(items, frames_value(alloc, &filling.others));
+    let items = document::with_item(items, edge_value(alloc, filling.before));
+    let items = document::with_item(items, edge_value(alloc, filling.after));
+    document::array(document::with_numbers(items, &[filling.bound as usize]))
+}
+
+#[tactic(auto, using(tsn_cert::proofs::MoveLemmas::wasting_back, tsn_cert::proofs::MoveLemmas::waste_moved))]
+fn waste_value(alloc: Global, wasting: &Wasting) -> Result<Value, AllocError>
+    ensures value { IfOk result (λ v. view v ≡ move_value (form.Waste wasting.now)) }
+    ensures reads_back { OnOk result (move_in (move_value (form.Waste wasting.now)) ≡ Some (form.Waste wasting.now)) }
+{
+    let items = document::first_items(alloc, "waste", &[wasting.link]);
+    let items = document::with_item(items, frames_value(alloc, &wasting.frames));
+    document::array(document::with_item(items, fixed_value(alloc, &wasting.fixed)))
 }
 
 #[tactic(auto, using(tsn_cert::proofs::MoveLemmas::pack_back))]
@@ -204,7 +315,7 @@ fn later_motion(tokens: &mut Tokens<'_>, word: &str) -> Result<Move, Unread>
     }
 }
 
-// The same of the last three words.
+// The same of the words behind the first six.
 fn last_motion(tokens: &mut Tokens<'_>, word: &str) -> Result<Move, Unread>
     ensures { Takes (λ motion. motion) result ((row_of (drop 6 motions) word.now).rest tokens.old) tokens.new }
 {
@@ -214,6 +325,21 @@ fn last_motion(tokens: &mut Tokens<'_>, word: &str) -> Result<Move, Unread>
         round(tokens)
     } else if word == "follow" {
         follow(tokens)
+    } else {
+        room_motion(tokens, word)
+    }
+}
+
+// The same of the last three words.
+fn room_motion(tokens: &mut Tokens<'_>, word: &str) -> Result<Move, Unread>
+    ensures { Takes (λ motion. motion) result ((row_of (drop 9 motions) word.now).rest tokens.old) tokens.new }
+{
+    if word == "fill" {
+        Ok(Move::Fill(filling(tokens)?))
+    } else if word == "fill_back" {
+        Ok(Move::FillBack(filling(tokens)?))
+    } else if word == "waste" {
+        Ok(Move::Waste(wasting(tokens)?))
     } else {
         Err(Unread::OtherForm)
     }
@@ -236,7 +362,7 @@ impl Element for Move {
 
     ghost written = { move_value };
 
-    #[tactic(auto, using(tsn_cert::proofs::MoveLemmas::go_back, tsn_cert::proofs::MoveLemmas::turn_back, tsn_cert::proofs::MoveLemmas::last_back, tsn_cert::proofs::MoveLemmas::first_back))]
+    #[tactic(auto, using(tsn_cert::proofs::MoveLemmas::go_back, tsn_cert::proofs::MoveLemmas::turn_back, tsn_cert::proofs::MoveLemmas::last_back, tsn_cert::proofs::MoveLemmas::first_back, tsn_cert::proofs::MoveLemmas::fill_moved, tsn_cert::proofs::MoveLemmas::fill_back_moved))]
     fn print(&self, alloc: Global) -> Result<Value, AllocError> {
         match self {
             Move::Go(order) => order_behind(alloc, "go", *order),
@@ -248,6 +374,9 @@ impl Element for Move {
             Move::Pack(link, frames) => pack_value(alloc, *link, frames),
             Move::Round(orders) => round_value(alloc, orders),
             Move::Follow(known, weaker) => follow_value(alloc, *known, *weaker),
+            Move::Fill(filling) => filling_behind(alloc, "fill", filling),
+            Move::FillBack(filling) => filling_behind(alloc, "fill_back", filling),
+            Move::Waste(wasting) => waste_value(alloc, wasting),
         }
     }
 

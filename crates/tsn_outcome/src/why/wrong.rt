@@ -52,6 +52,12 @@ pub fn push_wrong(text: &mut String, problem: &Problem, wrong: Wrong) -> Written
             end,
             of_others,
         } => push_room(text, LinkName(problem, link), bound, end, of_others),
+        Wrong::Movable(frame) => write!(text, "{} can still move", FrameName(problem, frame)),
+        Wrong::Open { link, place } => push_open(text, LinkName(problem, link), place),
+        Wrong::OutOfTurn(frame) => push_out_of_turn(text, FrameName(problem, frame)),
+        Wrong::Filled { link, lost, idle } => {
+            push_filled(text, LinkName(problem, link), lost, idle)
+        }
     }
 }
 
@@ -132,6 +138,27 @@ fn push_room(
     write!(
         text,
         "the bound {bound} of their use isn't past {whose} latest end {end} on {link}"
+    )
+}
+
+// Writes that a frame may begin at a place.
+fn push_open(text: &mut String, link: LinkName<'_>, place: u64) -> Written {
+    write!(
+        text,
+        "sums of works let the frame begin at {place} on {link}"
+    )
+}
+
+// Writes that a frame doesn't begin behind those before it.
+fn push_out_of_turn(text: &mut String, frame: FrameName<'_>) -> Written {
+    write!(text, "{frame} doesn't begin behind the ones before it")
+}
+
+// Writes that frames leave no more of their rooms than the idle time.
+fn push_filled(text: &mut String, link: LinkName<'_>, lost: u64, idle: u64) -> Written {
+    write!(
+        text,
+        "the {lost} ns that sums of works leave aren't more than the {idle} ns of idle time on {link}"
     )
 }
 

@@ -1,0 +1,4 @@
+pub mod Divisors
+pub mod Placing
+pub mod Sums
+pub mod Wastes
