@@ -1,10 +1,10 @@
 //! What a search knows: the network's numbers, the bounds with the changes that led to them, the clauses, and what was shown; and why a
 //! literal holds. Bounds stand in this order: the least and the greatest offset of each stream, the least and the greatest flowspan, and
 //! the least and the greatest gap of each pair. Times are in nanoseconds.
-use crate::clauses::Clauses;
+use crate::clauses::{Clauses, part_of};
 use crate::literal::Literal;
 use crate::number::{NONE, at, index, less, push, sum};
-use crate::reason::{Deed, Placing, Why};
+use crate::reason::{Deed, Part, Placing, Why};
 use crate::record::{Record, place_at, places_of};
 use crate::side::{end_literal, head_literal, lead};
 use crate::table::{Block, Pair, Rival, Table, place_of};
@@ -190,15 +190,28 @@ impl Known {
             Why::Arrive(stream) => Some(Deed::Arrive(stream)),
             Why::Turn(_) => Some(Deed::Turn(literal)),
             Why::Placing(number) => Some(Deed::Place(number)),
+            Why::Filling(number) => Some(Deed::Fill(number)),
         }
     }
 
     /// The same, with its placing kept. The error says that there was no memory.
     pub fn kept_deed(&mut self, literal: Literal, why: Why) -> Result<Option<Deed>, AllocError> {
-        if let Why::Placing(number) = why {
-            return self.kept_placing(number as usize);
+        match why {
+            Why::Placing(number) => self.kept_placing(number as usize),
+            Why::Filling(number) => self.kept_filling(number as usize),
+            _ => Ok(self.deed_of(literal, why)),
         }
-        Ok(self.deed_of(literal, why))
+    }
+
+    fn kept_filling(&mut self, number: usize) -> Result<Option<Deed>, AllocError> {
+        let Some(filling) = self.trail.fillings.get_mut(number) else {
+            return Ok(None);
+        };
+        if filling.kept == NONE {
+            let frames = places_of(&self.trail.places, filling.frames);
+            filling.kept = self.record.keep_filling(*filling, frames)?;
+        }
+        Ok(Some(Deed::Fill(filling.kept)))
     }
 
     fn kept_placing(&mut self, number: usize) -> Result<Option<Deed>, AllocError> {
@@ -227,6 +240,7 @@ impl Known {
                 };
                 self.explain_placing(literal, placing)
             }
+            Why::Filling(number) => self.explain_filling(number as usize),
         }
     }
 
@@ -298,6 +312,17 @@ impl Known {
             };
             push(&mut self.needs, head_literal(visit, side, begin))?;
             push(&mut self.needs, end_literal(visit, side, placing.end))?;
+        }
+        Ok(())
+    }
+
+    fn explain_filling(&mut self, number: usize) -> Result<(), AllocError> {
+        let Some(filling) = self.trail.fillings.get(number) else {
+            return Ok(());
+        };
+        let Part { start, count } = filling.needs;
+        for literal in part_of(&self.trail.needs, start, count) {
+            push(&mut self.needs, *literal)?;
         }
         Ok(())
     }

@@ -18,6 +18,8 @@ pub enum Why {
     Turn(i64),
     /// By the placing of this number.
     Placing(u32),
+    /// By the filling of this number.
+    Filling(u32),
 }
 
 /// Frames of a link: so many places of a list of lists, from one place on.
@@ -55,6 +57,35 @@ pub struct Packing {
     pub frames: Part,
 }
 
+/// That a frame of a link can't start before an instant in a room between two frames that can't move: at each instant before it sums of the
+/// works of frames leave more of the room than all of them may leave. Seen from the end of the cycle each number's sign is turned.
+#[derive(Clone, Copy)]
+pub struct Filling {
+    pub link: u32,
+    pub side: u32,
+    pub place: usize,
+    /// All of the frames.
+    pub frames: Part,
+    /// The frames that bound the room; none where all of them do.
+    pub before: u32,
+    pub after: u32,
+    /// The instant.
+    pub head: i64,
+    /// The literals by which it holds.
+    pub needs: Part,
+    /// Its number in the record, where it's kept.
+    pub kept: u32,
+}
+
+/// That in the rooms between frames that can't move sums of works leave more than all frames may leave.
+#[derive(Clone, Copy)]
+pub struct Wasting {
+    pub link: u32,
+    pub frames: Part,
+    /// Those that part the rooms, an earlier one first.
+    pub fixed: Part,
+}
+
 /// What a clause follows by, as its argument has it.
 #[derive(Clone, Copy)]
 pub enum Deed {
@@ -72,4 +103,8 @@ pub enum Deed {
     Pack(u32),
     /// The round of this number.
     Round(u32),
+    /// The filling of this number.
+    Fill(u32),
+    /// The wasting of this number.
+    Waste(u32),
 }

@@ -2,7 +2,7 @@
 use crate::clauses::part_of;
 use crate::literal::Literal;
 use crate::number::{index, item_at, next, push};
-use crate::reason::{Deed, Packing, Part, Placing};
+use crate::reason::{Deed, Filling, Packing, Part, Placing, Wasting};
 use std::alloc::{AllocError, Global};
 
 // Where a clause begins in each list.
@@ -23,6 +23,8 @@ pub struct Record {
     grounds: Vec<u32>,
     pub placings: Vec<Placing>,
     pub packings: Vec<Packing>,
+    pub fillings: Vec<Filling>,
+    pub wastings: Vec<Wasting>,
     /// The frames of placings and packings, by their places on the links.
     pub places: Vec<u16>,
     // Bounds of gaps whose arcs lead back to where they begin, later than they began; and where each round begins.
@@ -40,6 +42,8 @@ impl Record {
             grounds: Vec::new(alloc),
             placings: Vec::new(alloc),
             packings: Vec::new(alloc),
+            fillings: Vec::new(alloc),
+            wastings: Vec::new(alloc),
             places: Vec::new(alloc),
             rounds: Vec::new(alloc),
             starts: Vec::new(alloc),
@@ -81,6 +85,48 @@ impl Record {
             ..placing
         };
         push(&mut self.placings, kept)?;
+        Ok(number)
+    }
+
+    /// Keeps a filling of these frames with what was shown, and answers its number.
+    pub fn keep_filling(&mut self, filling: Filling, frames: &[u16]) -> Result<u32, AllocError> {
+        let number = index(self.fillings.len());
+        let kept = Filling {
+            frames: Part {
+                start: self.places.len(),
+                count: frames.len(),
+            },
+            kept: number,
+            ..filling
+        };
+        self.places.extend_from_slice(frames)?;
+        push(&mut self.fillings, kept)?;
+        Ok(number)
+    }
+
+    /// Keeps a wasting of these frames, some of which can't move, and answers its number.
+    pub fn keep_wasting(
+        &mut self,
+        link: u32,
+        frames: &[u16],
+        fixed: &[u16],
+    ) -> Result<u32, AllocError> {
+        let number = index(self.wastings.len());
+        let start = self.places.len();
+        let kept = Wasting {
+            link,
+            frames: Part {
+                start,
+                count: frames.len(),
+            },
+            fixed: Part {
+                start: start.wrapping_add(frames.len()),
+                count: fixed.len(),
+            },
+        };
+        self.places.extend_from_slice(frames)?;
+        self.places.extend_from_slice(fixed)?;
+        push(&mut self.wastings, kept)?;
         Ok(number)
     }
 

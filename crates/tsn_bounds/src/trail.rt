@@ -1,7 +1,7 @@
 //! The bounds of the variables, and the changes that led to them, one after another.
 use crate::literal::Literal;
 use crate::number::{NONE, at, index, index_at, item_at, push, put, put_index};
-use crate::reason::{Part, Placing, Why};
+use crate::reason::{Filling, Part, Placing, Why};
 use std::alloc::{AllocError, Global};
 
 /// A change of a bound.
@@ -35,6 +35,8 @@ struct Mark {
     events: usize,
     placings: usize,
     places: usize,
+    fillings: usize,
+    needs: usize,
 }
 
 /// Bounds and their changes.
@@ -45,8 +47,11 @@ pub struct Trail {
     pub ground: Vec<i64>,
     pub events: Vec<Event>,
     pub placings: Vec<Placing>,
-    /// The others of placings, by their places on the links.
+    pub fillings: Vec<Filling>,
+    /// The others of placings and the frames of fillings, by their places on the links.
     pub places: Vec<u16>,
+    /// The literals of fillings.
+    pub needs: Vec<Literal>,
     /// How many changes were looked at.
     pub looked: usize,
     // The last change of each bound.
@@ -64,7 +69,9 @@ impl Trail {
             ground: Vec::new(alloc),
             events: Vec::new(alloc),
             placings: Vec::new(alloc),
+            fillings: Vec::new(alloc),
             places: Vec::new(alloc),
+            needs: Vec::new(alloc),
             looked: 0,
             tops: Vec::new(alloc),
             followed: Vec::new(alloc),
@@ -140,12 +147,39 @@ impl Trail {
         Ok(number)
     }
 
+    /// Keeps a filling of these frames and literals as long as the trail needs it, and answers its number.
+    pub fn keep_filling(
+        &mut self,
+        filling: Filling,
+        frames: &[u16],
+        needs: &[Literal],
+    ) -> Result<u32, AllocError> {
+        let number = index(self.fillings.len());
+        let kept = Filling {
+            frames: Part {
+                start: self.places.len(),
+                count: frames.len(),
+            },
+            needs: Part {
+                start: self.needs.len(),
+                count: needs.len(),
+            },
+            ..filling
+        };
+        self.places.extend_from_slice(frames)?;
+        self.needs.extend_from_slice(needs)?;
+        push(&mut self.fillings, kept)?;
+        Ok(number)
+    }
+
     /// Begins a level.
     pub fn open(&mut self) -> Result<(), AllocError> {
         let mark = Mark {
             events: self.events.len(),
             placings: self.placings.len(),
             places: self.places.len(),
+            fillings: self.fillings.len(),
+            needs: self.needs.len(),
         };
         push(&mut self.marks, mark)
     }
@@ -199,6 +233,8 @@ impl Trail {
         if let Some(mark) = self.marks.get(level) {
             self.placings.truncate(mark.placings);
             self.places.truncate(mark.places);
+            self.fillings.truncate(mark.fillings);
+            self.needs.truncate(mark.needs);
         }
         self.marks.truncate(level);
         self.looked = self.events.len();

@@ -5,21 +5,27 @@ use crate::learning::{Budget, CourseNews, Hear};
 use crate::turn::Turn;
 use std::alloc::{AllocError, Global};
 use tsn_bounds::literal::Literal;
-use tsn_bounds::number::{FAR, at, copy, less, next, put, signed, signed_list, sum};
-use tsn_bounds::table::{Table, Visit};
+use tsn_bounds::number::{at, copy, less, next, put, signed, signed_list, sum, unsigned_list};
+use tsn_place::placement::Placement;
+use tsn_place::repair::Asked;
 use tsn_solver::ask::Answered;
 use tsn_solver::search::Search;
 use tsn_timing::Timing;
-use tsn_translate::first::first_schedule;
 use tsn_translate::table::table_of;
 
 // How many conflicts the question by the links is worth.
 const SHARE: u64 = 50;
 
+// How often first schedules look at a lane for each stream.
+const FIRST_WORK: u64 = 20_000;
+
 /// A search for the first of the optimal schedules.
 #[derive(Drop)]
 pub struct Course {
     pub search: Search,
+    pub placement: Placement,
+    // No flowspan is less by what the links have to carry.
+    least: i64,
     /// The best schedule so far, and its flowspan; more than the cycle where there is none.
     pub best: Vec<i64>,
     pub flowspan: i64,
@@ -53,8 +59,10 @@ pub fn course_of(
     known: Option<&[u64]>,
     budget: Budget,
 ) -> Result<Course, AllocError> {
-    let best = best_known(alloc, timing, known)?;
-    course_from(alloc, timing, best, budget)
+    let mut placement = Placement::of(alloc, timing)?;
+    let least = placement.least_flowspan(alloc)?;
+    let best = best_known(alloc, timing, known, &mut placement, least)?;
+    course_with(alloc, timing, best, budget, placement, least)
 }
 
 /// A course from a schedule; from none where it's empty. The error says that there was no memory.
@@ -64,11 +72,30 @@ pub fn course_from(
     best: Best,
     budget: Budget,
 ) -> Result<Course, AllocError> {
+    let placement = Placement::of(alloc, timing)?;
+    let least = placement.least_flowspan(alloc)?;
+    course_with(alloc, timing, best, budget, placement, least)
+}
+
+fn course_with(
+    alloc: Global,
+    timing: &Timing,
+    best: Best,
+    budget: Budget,
+    placement: Placement,
+    least: i64,
+) -> Result<Course, AllocError> {
+    let mut placement = placement;
+    if !best.offsets.is_empty() {
+        placement.load(&best.offsets)?;
+    }
     let mut lows = Vec::new(alloc);
     lows.resize(timing.streams(), 0)?;
     let most = best.flowspan.min(signed(timing.cycle()));
     Ok(Course {
         search: search_of(alloc, timing, most, budget.work)?,
+        placement,
+        least,
         best: best.offsets,
         flowspan: best.flowspan,
         last_conflict: budget.conflicts,
@@ -97,73 +124,33 @@ impl Best {
 }
 
 // The better one of the known schedule and a first one.
-fn best_known(alloc: Global, timing: &Timing, known: Option<&[u64]>) -> Result<Best, AllocError> {
+fn best_known(
+    alloc: Global,
+    timing: &Timing,
+    known: Option<&[u64]>,
+    placement: &mut Placement,
+    least: i64,
+) -> Result<Best, AllocError> {
     let mut best = Best {
         offsets: Vec::new(alloc),
         flowspan: sum(signed(timing.cycle()), 1),
     };
-    let table = table_of(alloc, timing, signed(timing.cycle()))?;
-    let taken = take_schedules(&mut best, alloc, timing, &table, known);
-    drop(table);
-    match taken {
-        Ok(()) => Ok(best),
-        Err(error) => {
-            drop(best);
-            Err(error)
-        }
-    }
-}
-
-fn take_schedules(
-    best: &mut Best,
-    alloc: Global,
-    timing: &Timing,
-    table: &Table,
-    known: Option<&[u64]>,
-) -> Result<(), AllocError> {
     if let Some(offsets) = known {
         if timing.is_valid(offsets) {
             let offsets = signed_list(alloc, offsets)?;
-            let flowspan = table.flowspan(&offsets);
-            best.take(offsets, flowspan);
+            placement.load(&offsets)?;
+            best.take(offsets, placement.flowspan());
         }
     }
-    let least = least_flowspan(table);
-    if best.flowspan > least {
-        if let Some(offsets) = first_schedule(alloc, table, least)? {
-            let flowspan = table.flowspan(&offsets);
-            best.take(offsets, flowspan);
+    if best.flowspan > least
+        && placement.first(least, FIRST_WORK.wrapping_mul(timing.streams() as u64))?
+    {
+        let offsets = copy(alloc, placement.schedule())?;
+        if timing.is_valid(&unsigned_list(alloc, &offsets)?) {
+            best.take(offsets, placement.flowspan());
         }
     }
-    Ok(())
-}
-
-// No flowspan is less by the streams alone, and by what each link has to carry.
-fn least_flowspan(table: &Table) -> i64 {
-    let mut least = 0i64;
-    for body in &table.bodies {
-        least = least.max(sum(body.release, body.arrival));
-    }
-    for shared in &table.links {
-        least = least.max(least_by_link(table, &shared.visits));
-    }
-    least
-}
-
-// The same by the first frames of a link's streams: they go one after another, and the last one has no shorter way left than any.
-fn least_by_link(table: &Table, visits: &[Visit]) -> i64 {
-    let mut begin = FAR;
-    let mut work = 0i64;
-    let mut rest = FAR;
-    for visit in visits {
-        if visit.shift == 0 {
-            let body = table.body(visit.stream);
-            begin = begin.min(sum(body.release, visit.start));
-            work = sum(work, visit.work);
-            rest = rest.min(less(body.arrival, sum(visit.start, visit.work)));
-        }
-    }
-    sum(sum(begin, work), rest)
+    Ok(best)
 }
 
 /// A search with nothing given but the network, in which no schedule of more than this flowspan is in question, and so much work may
@@ -237,8 +224,15 @@ impl Course {
                 return Ok(State::Open);
             }
             let most = turn.target(least, self.flowspan);
+            if turn.is_above && self.place_lower(most, turn.tries)? {
+                turn.note_found(less(most, least));
+                continue;
+            }
             match self.ask(streams, most, turn.share)? {
-                Answered::Yes => turn.note_found(less(most, least)),
+                Answered::Yes => {
+                    turn.note_found(less(most, least));
+                    self.shorten()?;
+                }
                 Answered::No => turn.note_none(),
                 Answered::Unknown => turn.note_unknown(),
             }
@@ -246,10 +240,39 @@ impl Course {
         Ok(State::Open)
     }
 
+    // A schedule of at most this flowspan, by placing streams anew.
+    fn place_lower(&mut self, most: i64, tries: u64) -> Result<bool, AllocError> {
+        if self.best.is_empty() {
+            return Ok(false);
+        }
+        if !self.placement.lower_to(most, tries)? {
+            return Ok(false);
+        }
+        self.take_placed()
+    }
+
+    // Moves the streams of the best schedule to the end and back, which may make it shorter.
+    fn shorten(&mut self) -> Result<(), AllocError> {
+        self.placement.shorten()?;
+        if self.placement.flowspan() < self.flowspan {
+            self.take_placed()?;
+        }
+        Ok(())
+    }
+
+    fn take_placed(&mut self) -> Result<bool, AllocError> {
+        self.search.found.clear();
+        self.search
+            .found
+            .extend_from_slice(self.placement.schedule())?;
+        self.take_found();
+        Ok(true)
+    }
+
     // Asks for less than what the links have to carry takes: there is nothing, which is found at once where the bounds of offsets say so.
     fn ask_by_links(&mut self) -> Result<(), AllocError> {
         let streams = self.search.known.table.streams();
-        let least = least_flowspan(&self.search.known.table).min(self.flowspan);
+        let least = self.least.min(self.flowspan);
         if self.search.known.is_open && self.search.known.low(streams) < least {
             let _ = self.ask(streams, less(least, 1), SHARE)?;
         }
@@ -280,10 +303,15 @@ impl Course {
     // Finds the least offset of a stream by the premises. False where it's left.
     fn lower_offset<H: Hear>(&mut self, stream: usize, hear: &H) -> Result<bool, AllocError> {
         let mut turn = Turn::of_offset();
+        let mut tried = -1i64;
+        self.raise_placed(stream);
         for _ in 0..u64::MAX {
             self.tell(hear, Some(stream));
-            let least = self.known_low(stream);
+            let mut least = self.known_low(stream);
             let own = at(&self.best, stream);
+            if let Some(lowest) = self.placement.lowest(stream, self.flowspan) {
+                least = least.max(lowest);
+            }
             if least >= own || !self.search.known.is_open {
                 return Ok(true);
             }
@@ -291,6 +319,14 @@ impl Course {
                 return Ok(false);
             }
             let most = turn.target(least, own);
+            if tried < most {
+                tried = most;
+                if self.place_sooner(stream, most)? {
+                    turn.note_found(less(most, least));
+                    tried = -1;
+                    continue;
+                }
+            }
             match self.ask(stream, most, turn.share)? {
                 Answered::Yes => turn.note_found(less(most, least)),
                 Answered::No => {
@@ -301,6 +337,29 @@ impl Course {
             }
         }
         Ok(false)
+    }
+
+    // No lesser offsets than those that are shown for good are in question.
+    fn raise_placed(&mut self, from: usize) {
+        for stream in from..self.best.len() {
+            let bound = self.search.known.least(stream);
+            let low = at(&self.search.known.trail.ground, bound as usize);
+            self.placement.raise(stream, low);
+        }
+    }
+
+    // A schedule in which a stream starts at this or sooner, by placing streams anew.
+    fn place_sooner(&mut self, stream: usize, most: i64) -> Result<bool, AllocError> {
+        let asked = Asked {
+            stream,
+            most,
+            flowspan: self.flowspan,
+            tries: 300u64.wrapping_add(self.best.len() as u64 / 2),
+        };
+        if !self.placement.repair(asked)? {
+            return Ok(false);
+        }
+        self.take_placed()
     }
 
     // What the stream's offset is no less than, by the premises.
@@ -350,6 +409,7 @@ impl Course {
         let _ = self.search.premises.pop();
         if answered == Answered::Yes {
             self.take_found();
+            self.placement.load(&self.best)?;
         }
         Ok(answered)
     }

@@ -23,6 +23,9 @@ const MOST_PARTS: i64 = 1 << 20;
 // How much less is asked for at the least, after a schedule was found, than one less than its value, in nanoseconds.
 const LEAP: i64 = 256;
 
+// How often streams may have no room at first, where a schedule is looked for by placing.
+const TRIES: u64 = 2000;
+
 // How many conflicts the first question is worth, and the others at first; in how many parts what is left is parted at first; and the
 // part of it that a leap is at the least.
 #[derive(Clone, Copy)]
@@ -37,9 +40,12 @@ struct Worth {
 #[derive(Clone, Copy)]
 pub struct Turn {
     is_first: bool,
-    is_above: bool,
+    /// Whether it's asked from above.
+    pub is_above: bool,
     parts: i64,
     leap: i64,
+    /// How often streams may have no room where a schedule is looked for by placing.
+    pub tries: u64,
     /// How many conflicts the question is worth.
     pub share: u64,
     worth: Worth,
@@ -72,6 +78,7 @@ impl Turn {
             is_above: false,
             parts: worth.parts,
             leap: 0,
+            tries: TRIES,
             share: worth.first,
             worth,
         }
@@ -127,6 +134,7 @@ impl Turn {
             self.leap = self.leap / 4;
         } else if self.is_above {
             self.is_above = false;
+            self.tries = self.tries.saturating_add(self.tries / 4);
         } else {
             self.parts = self.parts.wrapping_mul(4).min(MOST_PARTS);
             self.share = self.share.saturating_add(self.share / 2);

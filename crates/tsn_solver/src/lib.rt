@@ -6,6 +6,7 @@
 mod analysis;
 pub mod ask;
 pub mod choice;
+mod fill;
 mod gaps;
 mod line;
 mod overload;
@@ -16,3 +17,4 @@ pub mod rooms;
 mod round;
 mod rows;
 pub mod search;
+mod sums;

@@ -3,9 +3,10 @@ use crate::search::Search;
 use std::alloc::AllocError;
 use tsn_bounds::clauses::WatchOutcome;
 use tsn_bounds::literal::Literal;
-use tsn_bounds::number::{less, next, push, sum};
-use tsn_bounds::reason::Why;
-use tsn_bounds::side::{bound_of, lead};
+use tsn_bounds::number::{at, index, less, next, push, sum};
+use tsn_bounds::reason::{Deed, Part, Why};
+use tsn_bounds::record::place_at;
+use tsn_bounds::side::{bound_of, end_literal, head_literal, lead};
 
 // How much work it counts as to look at a frame of a link from one side. A link that rests counts as one looked at from both.
 const LOOK: usize = 16;
@@ -193,7 +194,72 @@ impl Search {
                 return Ok(false);
             }
         }
+        if self.rooms.fills.is_wasted {
+            self.note_waste(link, side)?;
+            return Ok(false);
+        }
+        for number in 0..self.rooms.fills.found.len() {
+            if !self.place_filled(number)? {
+                return Ok(false);
+            }
+        }
         Ok(true)
+    }
+
+    // A frame that can't start before an instant, by its number among those that were found.
+    fn place_filled(&mut self, number: usize) -> Result<bool, AllocError> {
+        let Some(&filling) = self.rooms.fills.found.get(number) else {
+            return Ok(true);
+        };
+        let link = filling.link as usize;
+        let visit = self.known.table.visit(link, filling.place);
+        let literal = Literal::of(
+            bound_of(visit, filling.side),
+            less(filling.head, lead(visit, filling.side)),
+        );
+        if self.known.trail.is_true(literal) {
+            return Ok(true);
+        }
+        self.gather(link, filling.side, filling.frames)?;
+        let frames = self.rooms.fills.frames_of(filling.frames);
+        let kept = self
+            .known
+            .trail
+            .keep_filling(filling, frames, &self.gathered)?;
+        self.raise(literal, Why::Filling(kept))
+    }
+
+    // Gathers the literals of the heads and ends that are needed of frames.
+    fn gather(&mut self, link: usize, side: u32, frames: Part) -> Result<(), AllocError> {
+        self.gathered.clear();
+        let from = frames.start;
+        for number in from..from.wrapping_add(frames.count) {
+            let fills = &self.rooms.fills;
+            let visit = self
+                .known
+                .table
+                .visit(link, place_at(&fills.places, number));
+            let head = head_literal(visit, side, at(&fills.heads, number));
+            let end = end_literal(visit, side, at(&fills.ends, number));
+            push(&mut self.gathered, head)?;
+            push(&mut self.gathered, end)?;
+        }
+        Ok(())
+    }
+
+    // Notes as the clash that the rooms of a set of a link leave more than they may.
+    fn note_waste(&mut self, link: usize, side: u32) -> Result<(), AllocError> {
+        let count = self.rooms.fills.places.len();
+        self.gather(link, side, Part { start: 0, count })?;
+        self.known.clash.clear();
+        self.known.clash.extend_from_slice(&self.gathered)?;
+        let fills = &self.rooms.fills;
+        let kept = self
+            .known
+            .record
+            .keep_wasting(index(link), &fills.places, &fills.fixed)?;
+        self.known.clash_deed = Some(Deed::Waste(kept));
+        Ok(())
     }
 
     // A frame that goes last of others on a link, by its number among those that were found.

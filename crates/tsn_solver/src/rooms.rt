@@ -2,6 +2,7 @@
 //! is busy (Fahimi, Ouellet and Quimper 2018). A frame's head is the least instant at which it may start on the link, its end the
 //! greatest at which its occupancy may end. Seen from the end of the cycle, on side 1, each number's sign is turned and heads are ends.
 //! Times are in nanoseconds.
+use crate::fill::{Fills, Tight};
 use crate::line::{Limit, Line, Standing, standing_at};
 use crate::ranks::Ranks;
 use crate::rows::{Ease, Room};
@@ -57,6 +58,7 @@ pub struct Rooms {
     passed: usize,
     is_waiting: Vec<bool>,
     sweep: LinkSweep,
+    pub fills: Fills,
 }
 
 // A look at a group of a link from one side.
@@ -73,6 +75,9 @@ struct LinkSweep {
     done: Vec<i64>,
     source: Vec<i64>,
     ease: Ease,
+    // Of the sets that leave least the first and the last one.
+    first_tight: Tight,
+    tight: Tight,
     // The others of the placings that were found, and the frames that don't fit, by their places on the link.
     places: Vec<u16>,
     crowd: Vec<u16>,
@@ -98,6 +103,7 @@ impl Rooms {
             passed: 0,
             is_waiting: Vec::new(alloc),
             sweep: LinkSweep::none(alloc),
+            fills: Fills::none(alloc),
         }
     }
 
@@ -111,6 +117,7 @@ impl Rooms {
         }
         self.is_waiting.resize(table.links.len(), false)?;
         let most = self.most_frames();
+        self.fills.size()?;
         self.sweep.size(most)
     }
 
@@ -222,6 +229,7 @@ impl Rooms {
     pub fn look(&mut self, link: usize, side: u32) -> Result<Option<Overload>, AllocError> {
         self.found.clear();
         self.sweep.places.clear();
+        self.fills.clear();
         self.looked = 0;
         let Some(room) = self.rooms.get_mut(link) else {
             return Ok(None);
@@ -255,6 +263,20 @@ impl Rooms {
             if overload.is_some() {
                 return Ok(overload);
             }
+            let tight = self.sweep.tight;
+            let least = least_work(heads);
+            if self.found.is_empty() && tight.idle < least {
+                let first = self.sweep.first_tight;
+                self.fills.search(heads, tight, sight.link, side)?;
+                if !self.fills.is_wasted && self.fills.found.is_empty() && first.end < tight.end {
+                    self.fills.search(heads, first, sight.link, side)?;
+                }
+                self.looked = self.looked.wrapping_add(self.fills.looked);
+                if self.fills.is_wasted {
+                    return Ok(None);
+                }
+            }
+            self.sweep.note_tight(less(tight.idle, least));
             room.note_ease(number, self.sweep.ease);
         }
         Ok(None)
@@ -293,6 +315,14 @@ fn has_single_frames(links: &[Shared]) -> bool {
     true
 }
 
+fn least_work(row: &[Standing]) -> i64 {
+    let mut least = FAR;
+    for own in row {
+        least = least.min(own.work);
+    }
+    least
+}
+
 // So many frames of a row, from a place on.
 fn row_of(row: &[Standing], from: usize, count: usize) -> &[Standing] {
     let to = from.wrapping_add(count);
@@ -313,6 +343,8 @@ impl LinkSweep {
             done: Vec::new(alloc),
             source: Vec::new(alloc),
             ease: Ease::none(),
+            first_tight: Tight::none(),
+            tight: Tight::none(),
             places: Vec::new(alloc),
             crowd: Vec::new(alloc),
         }
@@ -339,6 +371,8 @@ impl LinkSweep {
         self.line.clear();
         self.late = 0;
         self.ease = Ease::full();
+        self.tight = Tight::none();
+        self.first_tight = Tight::none();
         self.rest_ranks.fill(heads.len());
         for own in ends {
             self.line.insert(own.head, own.work);
@@ -347,6 +381,13 @@ impl LinkSweep {
             let over = self.line.over();
             if over > end {
                 return Ok(Some(self.overload(heads, Sight { end, ..sight })?));
+            }
+            self.tight = self.tight.with(Tight {
+                end,
+                idle: less(end, over),
+            });
+            if self.first_tight.idle > less(end, over) {
+                self.first_tight = self.tight;
             }
             // One more is done by then and its work.
             let mut late = sum(over, own.most);
@@ -360,6 +401,18 @@ impl LinkSweep {
             self.note_room(less(end, over).min(less(end, late)));
         }
         Ok(None)
+    }
+
+    // A set that leaves less than its least work, or so much more, is looked at again whenever something changes, or at that change.
+    fn note_tight(&mut self, more: i64) {
+        if more < 0 {
+            self.ease = Ease {
+                closer: 0,
+                apart: 0,
+            };
+        } else {
+            self.note_room(more);
+        }
     }
 
     fn note_room(&mut self, room: i64) {

@@ -34,6 +34,8 @@ pub struct Search {
     pub calm: u64,
     /// By the frames' places on a link that is overloaded, when their bounds came to be what they are.
     pub late: Vec<u32>,
+    /// The literals of what was found of a full link.
+    pub gathered: Vec<Literal>,
 }
 
 impl Search {
@@ -52,6 +54,7 @@ impl Search {
             most_kept: 4000,
             calm: 0,
             late: Vec::new(alloc),
+            gathered: Vec::new(alloc),
         }
     }
 

@@ -1,8 +1,8 @@
 //! The view that the moves of an argument lead through, so that no move comes too late.
 use tsn_bounds::known::{Known, is_impossible};
 use tsn_bounds::literal::Literal;
-use tsn_bounds::number::{FAR, at, index, less, put, sum};
-use tsn_bounds::reason::{Packing, Placing};
+use tsn_bounds::number::{FAR, NONE, at, index, less, put, sum};
+use tsn_bounds::reason::{Filling, Packing, Placing};
 use tsn_bounds::record::places_of;
 use tsn_bounds::side::{bound_of, lead};
 use tsn_bounds::table::Visit;
@@ -145,6 +145,32 @@ pub fn make_packing(known: &Known, view: &mut [i64], packing: Packing) -> Made {
         return Made::Wrong;
     }
     make_impossible(known, view)
+}
+
+/// Makes the move that a frame can't start before an instant of a room, or none where the view has it at that already, or past it. Answers
+/// the instant too, as seen from the filling's side.
+pub fn make_filling(
+    known: &Known,
+    view: &mut [i64],
+    filling: Filling,
+    frames: &[u16],
+) -> (Made, Option<i64>) {
+    let link = filling.link as usize;
+    let side = filling.side;
+    let own = known.table.visit(link, filling.place);
+    let high = if filling.after == NONE {
+        stay_of(known, view, link, side, frames).end
+    } else {
+        let last = known.table.visit(link, filling.after as usize);
+        head_of(view, last, side)
+    };
+    let place = filling.head.min(less(sum(high, 1), own.work));
+    if place <= head_of(view, own, side) {
+        return (judge(known, view), None);
+    }
+    let offset = less(place, lead(own, side));
+    narrow(view, Literal::of(bound_of(own, side), offset));
+    (judge(known, view), Some(place))
 }
 
 // When frames are on a link, as seen from a side.

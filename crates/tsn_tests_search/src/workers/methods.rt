@@ -51,9 +51,9 @@ fn where_learning_gives_up_a_schedule_is_followed(rt: HostRuntime) -> Result<(),
     Ok(())
 }
 
-/// By itself each stream arrives at 2252. So the first question is whether both may before 2924: one contradiction shows that they may
-/// not, and then when each begins. The second search asks that again. The first one tells before each question and behind it, the second
-/// before it asks of a stream, and at its end.
+/// What the link that both streams share has to carry asks for 2924. So the first question is whether both may arrive before: one
+/// contradiction shows that they may not, and then when each begins. The second search asks that again. The first one tells behind that
+/// question and before it asks of a stream, the second before it asks of a stream, and at its end.
 #[test]
 fn what_is_learned_is_heard(rt: HostRuntime) -> Result<(), Fail> {
     let witness = Witness::new(rt, 1, Order::Work);
@@ -64,10 +64,10 @@ fn what_is_learned_is_heard(rt: HostRuntime) -> Result<(), Fail> {
 }
 
 fn expect_learned(rt: &impl Abort, account: &Account) {
-    assert_eq!(rt; account.times, 7);
+    assert_eq!(rt; account.times, 6);
     assert_eq!(rt; account.aims, 12_122);
     assert_eq!(rt; account.conflicts, 111_222);
-    assert_eq!(rt; account.least_bound, 2_252);
+    assert_eq!(rt; account.least_bound, 2_924);
     assert!(rt; !account.has_changed);
     match account.learned {
         Some(last) => assert_eq!(rt;

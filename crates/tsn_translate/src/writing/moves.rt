@@ -1,7 +1,7 @@
 //! The moves of deeds.
 use crate::orders::stronger;
 use crate::view::{
-    Made, behind, is_contradicted, is_out_of_reach, left_of, make_arrival, make_go,
+    Made, behind, is_contradicted, is_out_of_reach, left_of, make_arrival, make_filling, make_go,
     make_impossible, make_packing, make_placing, make_turn, make_use,
 };
 use crate::writing::Writing;
@@ -11,7 +11,10 @@ use tsn_bounds::number::{NONE, index_at, push, sum};
 use tsn_bounds::reason::Deed;
 use tsn_bounds::record::places_of;
 use tsn_cert::motion::MAX_FRAMES;
-use tsn_cert::{Frames, Move, Order, Orders, Placing as Placed};
+use tsn_cert::{
+    Edge, Filling as Filled, Frames, Move, Order, Orders, Placing as Placed, Sequence,
+    Wasting as Wasted,
+};
 use tsn_model::Frame;
 
 impl Writing<'_> {
@@ -37,6 +40,10 @@ impl Writing<'_> {
             Deed::Place(number) => self.write_placing(number as usize, is_ground),
             Deed::Pack(number) => self.write_packing(number as usize, is_ground),
             Deed::Round(number) => self.write_round(number as usize, is_ground, is_lean),
+            // Sums of works are told by all that was known of them: less, as orders that ask for less leave it, may not do.
+            Deed::Fill(_) | Deed::Waste(_) if is_lean => Ok(Made::Wrong),
+            Deed::Fill(number) => self.write_filling(number as usize, is_ground),
+            Deed::Waste(number) => self.write_wasting(number as usize, is_ground),
         }
     }
 
@@ -185,6 +192,95 @@ impl Writing<'_> {
             }
             None => Ok(Made::Wrong),
         }
+    }
+
+    fn write_filling(&mut self, number: usize, is_ground: bool) -> Result<Made, AllocError> {
+        let known = self.known;
+        let (fillings, places) = if is_ground {
+            (&known.trail.fillings, &known.trail.places)
+        } else {
+            (&known.record.fillings, &known.record.places)
+        };
+        let Some(&filling) = fillings.get(number) else {
+            return Ok(Made::Wrong);
+        };
+        let link = filling.link as usize;
+        let frames = places_of(places, filling.frames);
+        let Some(others) = self.others_of(link, frames, filling.place)? else {
+            return Ok(Made::Wrong);
+        };
+        let (made, place) = make_filling(known, self.numbers(is_ground), filling, frames);
+        if let Some(place) = place {
+            let filled = Filled {
+                link: known.table.link_number(link),
+                frame: self.frame_of(link, filling.place),
+                others,
+                before: self.edge(link, filling.before),
+                after: self.edge(link, filling.after),
+                bound: place.unsigned_abs(),
+            };
+            self.push_filled(filled, filling.side)?;
+        }
+        Ok(made)
+    }
+
+    fn push_filled(&mut self, filled: Filled, side: u32) -> Result<(), AllocError> {
+        if side == 0 {
+            return push(&mut self.moves, Move::Fill(filled));
+        }
+        let turned = Filled {
+            before: filled.after,
+            after: filled.before,
+            ..filled
+        };
+        push(&mut self.moves, Move::FillBack(turned))
+    }
+
+    fn edge(&self, link: usize, place: u32) -> Edge {
+        if place == NONE {
+            None
+        } else {
+            Some(self.frame_of(link, place as usize))
+        }
+    }
+
+    // The frames but one.
+    fn others_of(
+        &self,
+        link: usize,
+        places: &[u16],
+        place: usize,
+    ) -> Result<Option<Frames>, AllocError> {
+        let mut others = Vec::new(self.alloc);
+        for other in places {
+            if *other as usize != place {
+                push(&mut others, *other)?;
+            }
+        }
+        self.frames_of(link, &others)
+    }
+
+    fn write_wasting(&mut self, number: usize, is_ground: bool) -> Result<Made, AllocError> {
+        let known = self.known;
+        let Some(&wasting) = known.record.wastings.get(number) else {
+            return Ok(Made::Wrong);
+        };
+        let link = wasting.link as usize;
+        let list = places_of(&known.record.places, wasting.frames);
+        let Some(frames) = self.frames_of(link, list)? else {
+            return Ok(Made::Wrong);
+        };
+        let mut fixed = Vec::new(self.alloc);
+        for place in places_of(&known.record.places, wasting.fixed) {
+            push(&mut fixed, self.frame_of(link, *place as usize))?;
+        }
+        let wasted = Wasted {
+            link: known.table.link_number(link),
+            frames,
+            fixed: Sequence::of(fixed),
+        };
+        push(&mut self.moves, Move::Waste(wasted))?;
+        Ok(make_impossible(known, self.numbers(is_ground)))
     }
 
     // Arcs that lead back to where they begin.
