@@ -6,8 +6,8 @@ refused.py [N]   N, 1 unless given: only each Nth call is refused.
 A small library (bench/refused/refuse.c, which needs a C compiler) stands before the allocator of the built program. Each run
 has to end with status 7 and the line `no memory`, or whole, where the call that was refused could be done without; with status 0 it
 tells the same remarks, too. Then the same with all calls refused from each one on; and `plan` with 4 workers and by the conflict-driven
-search, each call alone, on the star of ten and on networks on which that search learns: no memory, or the optimum with a certificate
-that is accepted. A run is stopped
+search, each call alone, on the star of ten and on networks on which that search learns, and of 129 streams: no memory, or the optimum
+with a certificate that is accepted; of the calls of that last one some 40 are refused. A run is stopped
 only where the limit is too little for the order of the file, when the conflict-driven search or the check of its argument had no
 memory; its plan is then a valid schedule. Of a plan whose tree is written in pieces the last calls alone are refused, when some of
 these are written. No run leaves an unfinished file. What is told at the end has how many calls were refused in all.
@@ -33,6 +33,8 @@ SEARCHES = [
     ("bench/suite/ring-010-fe-eq-hot-loose-3.toml", 60250, ["--search", "learn"]),
     ("bench/suite/tree-020-gig-wild-hot-tight-2.toml", 95302, ["--search", "learn", "--steps", "1000"]),
 ]
+# Frames of 64 octets at 100 Mb/s, of more streams than are searched in the order of the file.
+MANY = 129, 865_921
 # A plan whose tree is longer than two pieces, and how many of its last calls are refused.
 PIECES = "bench/suite/ring-010-fe-eq-hot-loose-3.toml", ["--search", "file"]
 LATE = 400
@@ -116,13 +118,13 @@ def is_stopped(network, plan, line, optimum):
     return line.startswith(f"stopped {found['flowspan']} settled ") and told == ["valid", "flowspan", str(found["flowspan"])]
 
 
-def refuse_search(program, network, optimum, search):
+def refuse_search(program, network, optimum, search, most=None):
     """A search by some words: no memory, or the optimum with a certificate that is accepted, or stopped with a valid schedule."""
     plan, cert = os.path.join(program.folder, "plan"), os.path.join(program.folder, "cert")
     words = ["plan", network, *search, "--plan", plan, "--cert", cert]
     _, calls = program.run(words)
     optimal = stopped = 0
-    for number in range(1, calls + 1, EVERY):
+    for number in range(1, calls + 1, EVERY if most is None else max(EVERY, calls // most)):
         for path in (plan, cert):
             if os.path.exists(path):
                 os.remove(path)
@@ -137,6 +139,16 @@ def refuse_search(program, network, optimum, search):
             sys.exit(f"{' '.join(search)}: with call {number} refused it ends with {line!r}, and the check says {told!r}")
         optimal += 1
     return calls, optimal, stopped
+
+
+def network_of_many(folder):
+    path = os.path.join(folder, "many.toml")
+    with open(path, "w") as file:
+        file.write("cycle = 1000000\nnode = [{name = 'A', kind = 'station'}, {name = 'Z', kind = 'station'}]\n")
+        file.write("link = [{a = 'A', b = 'Z', mbps = 100, prop = 1}]\n")
+        for number in range(MANY[0]):
+            file.write(f"[[stream]]\nname = 's{number}'\noctets = 64\nroute = ['A', 'Z']\n")
+    return path
 
 
 def refuse_late(program, network, search):
@@ -188,6 +200,8 @@ def main():
             refused += calls
             ends = f"{optimal} runs optimal, {stopped} stopped, the others with no memory"
             print(f"plan {' '.join(search)} on {os.path.basename(network)}: {calls} calls, {ends}", flush=True)
+        calls, optimal, _ = refuse_search(program, network_of_many(program.folder), MANY[1], [], 40)
+        print(f"plan of {MANY[0]} streams: {calls} calls, {optimal} runs optimal, the others with no memory", flush=True)
         network, search = PIECES
         calls, late = refuse_late(program, os.path.join(ROOT, network), search)
         refused += late

@@ -21,7 +21,7 @@ use Rattle.tsn_answer.specs.Answer.{IsArgued}
 -- what is shown is so, by at most so many steps; where nothing is shown, nothing is lost of what was known before, and no more conflicts are told of
 abbrev pub IsLearned : Network → ℕ → Known → Learned → Type 0
 IsLearned network limit before (Shown plan argument) = IsArgued network limit plan argument
-IsLearned network limit before (Open known count) = IsKnown network known × LosesNothing before known × (count ≤ limit)
+IsLearned network limit before (Open known count) = IsKnown network known × LosesNothing before known × IfSome count (λ count. count ≤ limit)
 
 -- the flowspan of the plan that is shown, 0 where that is that there is none; else the bound that is known
 abbrev pub bound_in : Learned → ℕ

@@ -23,8 +23,9 @@ use tsn_timing::{Problem, Timing};
 pub enum Learned {
     /// A plan, and an argument that shows it.
     Shown(Plan, Argument),
-    /// Nothing that is shown; what is known, and after how many conflicts, no more than there may be.
-    Open(Known, usize),
+    /// Nothing that is shown; what is known, and after how many conflicts, no more than there may be. None of these where memory was
+    /// refused.
+    Open(Known, Option<usize>),
 }
 
 /// What is asked: of what network, and with how many steps at most.
@@ -36,7 +37,7 @@ pub struct Question<'a> {
 }
 
 /// What a conflict-driven search finds, from the schedule on that is known, where there is one: an argument of at most so many steps, which
-/// is checked. Where memory is wanting nothing is shown. What it has as its best schedule counts where it is valid, and what it has
+/// is checked. What it has as its best schedule counts where it is valid, and what it has
 /// as a bound where its argument is accepted. The supervisor hears of the bound that this comes to.
 pub fn find_by_learning<S: Supervisor>(task: &Task<'_, S>, known: Known) -> Learned
     requires known { IsKnown task.now.problem.now.network known }
@@ -106,16 +107,16 @@ fn learned_by<S: Supervisor>(
             },
         ) => match argument {
             Some(argument) => judged(alloc, question, Plan::None, argument, known, conflicts),
-            None => Learned::Open(known, count_of(conflicts, question.limit)),
+            None => Learned::Open(known, Some(count_of(conflicts, question.limit))),
         },
         Ok(LearnAnswer::GaveUp(best)) => {
             let count = count_of(best.conflicts, question.limit);
             match given_up(alloc, question, best, known) {
-                Ok(known) => Learned::Open(known, count),
-                Err(known) => Learned::Open(known, count),
+                Ok(known) => Learned::Open(known, Some(count)),
+                Err(known) => Learned::Open(known, None),
             }
         }
-        Err(_) => Learned::Open(known, 0),
+        Err(NoMemory) => Learned::Open(known, None),
     }
 }
 
@@ -142,31 +143,39 @@ fn judged(
     requires known { IsKnown question.problem.now.network known }
     ensures { IsLearned question.entry.problem.now.network question.entry.limit known result }
 {
-    if is_shown(alloc, question, &plan, &argument) {
+    let shown = is_shown(alloc, question, &plan, &argument);
+    if let Ok(true) = shown {
         drop(known);
         return Learned::Shown(plan, argument);
     }
     drop(argument);
-    Learned::Open(
-        known.with_plan(question.timing, plan),
-        count_of(conflicts, question.limit),
-    )
+    let known = known.with_plan(question.timing, plan);
+    match shown {
+        Ok(_) => Learned::Open(known, Some(count_of(conflicts, question.limit))),
+        Err(NoMemory) => Learned::Open(known, None),
+    }
 }
 
 // Whether the argument shows by at most so many steps that the plan is the first one, or that there is none where it says so; and
-// whether its file would be read again.
-fn is_shown(alloc: Global, question: Question<'_>, plan: &Plan, argument: &Argument) -> bool
-    ensures { result ≡ true → IsArgued question.entry.problem.now.network question.entry.limit plan.now argument.now }
+// whether its file would be read again. The error says that there was no memory.
+fn is_shown(
+    alloc: Global,
+    question: Question<'_>,
+    plan: &Plan,
+    argument: &Argument,
+) -> Result<bool, NoMemory>
+    ensures { result ≡ Ok true → IsArgued question.entry.problem.now.network question.entry.limit plan.now argument.now }
 {
     let steps = argument.steps.list().len();
     if !argument.is_within_limits() {
-        return false;
+        return Ok(false);
     }
     match check_argument(alloc, question.problem, plan, argument) {
-        Ok(Verdict::First) => steps <= question.limit,
-        Ok(Verdict::NoSchedule) => steps <= question.limit,
-        Ok(Verdict::Optimal) => false,
-        Err(_) => false,
+        Ok(Verdict::First) => Ok(steps <= question.limit),
+        Ok(Verdict::NoSchedule) => Ok(steps <= question.limit),
+        Ok(Verdict::Optimal) => Ok(false),
+        Err(CheckFault::Memory) => Err(NoMemory),
+        Err(_) => Ok(false),
     }
 }
 

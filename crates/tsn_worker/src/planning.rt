@@ -119,7 +119,7 @@ pub fn search_by<R: Threads + Wait + Sync, S: Supervisor + Sync>(
     ensures gathered { IfOk result (λ searched. IsTeamwork effort.workers searched.word searched.found) }
 {
     if problem.timing().streams() > FEW_STREAMS {
-        let found = search_many(alloc, problem, effort.limit, supervisor);
+        let found = search_many(alloc, problem, effort.limit, supervisor)?;
         return Ok(Searched::alone(found));
     }
     search_few(rt, alloc, problem, effort, supervisor)
@@ -131,10 +131,10 @@ fn search_many<S: Supervisor>(
     problem: &Problem,
     limit: usize,
     supervisor: &S,
-) -> Found
+) -> Result<Found, NoMemory>
     requires { 128 < stream_count problem.now.network }
-    ensures found { IsFound problem.now.network limit result }
-    ensures team { (workers : ℕ) → IsTeamwork workers None result }
+    ensures found { IfOk result (IsFound problem.now.network limit) }
+    ensures team { IfOk result (λ found. (workers : ℕ) → IsTeamwork workers None found) }
 {
     let timing = problem.timing();
     let known = Known::of(timing);
@@ -145,8 +145,14 @@ fn search_many<S: Supervisor>(
         limit,
     };
     match learn_of(alloc, question, known, supervisor) {
-        Learned::Shown(plan, argument) => Found::Argued(plan, argument),
-        Learned::Open(known, count) => Found::GaveUp(known, count),
+        Learned::Shown(plan, argument) => Ok(Found::Argued(plan, argument)),
+        Learned::Open(known, conflicts) => match conflicts {
+            Some(count) => Ok(Found::GaveUp(known, count)),
+            None => {
+                drop(known);
+                Err(NoMemory)
+            }
+        },
     }
 }
 

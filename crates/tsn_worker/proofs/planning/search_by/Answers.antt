@@ -8,4 +8,4 @@ returns-clause-optimum g c =
     c.search_few.ensures.found
 
 pub returns-then-streams-gt-FEW_STREAMS-clause-gathered : goal.returns-then-streams-gt-FEW_STREAMS-clause-gathered
-returns-then-streams-gt-FEW_STREAMS-clause-gathered g c = rw c.alone.ensures (c.search_many-found.ensures.team c.args.effort.workers)
+returns-then-streams-gt-FEW_STREAMS-clause-gathered g c = rw c.alone.ensures (c.in_ok-found.ensures.team c.args.effort.workers)
