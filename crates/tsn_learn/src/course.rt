@@ -6,6 +6,8 @@ use crate::turn::Turn;
 use std::alloc::{AllocError, Global};
 use tsn_bounds::literal::Literal;
 use tsn_bounds::number::{at, copy, less, next, put, signed, signed_list, sum, unsigned_list};
+use tsn_place::effort::effort_for;
+use tsn_place::notice::Notice;
 use tsn_place::placement::Placement;
 use tsn_place::repair::Asked;
 use tsn_solver::ask::Answered;
@@ -16,8 +18,8 @@ use tsn_translate::table::table_of;
 // How many conflicts the question by the links is worth.
 const SHARE: u64 = 50;
 
-// How often first schedules look at a lane for each stream.
-const FIRST_WORK: u64 = 20_000;
+// How often the first schedule of all looks at a lane for each stream.
+const QUICK_WORK: u64 = 2_000;
 
 /// A search for the first of the optimal schedules.
 #[derive(Drop)]
@@ -53,15 +55,29 @@ pub enum State {
 
 /// A course from a schedule that is known, where there is one that is valid, or from a first one of its own. The error says that there
 /// was no memory.
-pub fn course_of(
+pub fn course_of<H: Hear>(
     alloc: Global,
     timing: &Timing,
     known: Option<&[u64]>,
     budget: Budget,
+    hear: &H,
 ) -> Result<Course, AllocError> {
     let mut placement = Placement::of(alloc, timing)?;
     let least = placement.least_flowspan(alloc)?;
-    let best = best_known(alloc, timing, known, &mut placement, least)?;
+    let mut best = Best::none(alloc, timing);
+    if let Some(offsets) = known {
+        best.take_known(alloc, timing, offsets, &mut placement)?;
+    }
+    for work in [QUICK_WORK, effort_for(timing.streams()).work] {
+        if best.flowspan > least {
+            let listener = Listener {
+                hear,
+                least,
+                best: best.flowspan,
+            };
+            best.place(alloc, timing, &mut placement, work, &listener)?;
+        }
+    }
     course_with(alloc, timing, best, budget, placement, least)
 }
 
@@ -114,6 +130,13 @@ pub struct Best {
 }
 
 impl Best {
+    fn none(alloc: Global, timing: &Timing) -> Best {
+        Best {
+            offsets: Vec::new(alloc),
+            flowspan: sum(signed(timing.cycle()), 1),
+        }
+    }
+
     // A schedule that was found: it's kept where its flowspan is less.
     fn take(&mut self, offsets: Vec<i64>, flowspan: i64) {
         if flowspan < self.flowspan {
@@ -121,36 +144,61 @@ impl Best {
             self.offsets = offsets;
         }
     }
-}
 
-// The better one of the known schedule and a first one.
-fn best_known(
-    alloc: Global,
-    timing: &Timing,
-    known: Option<&[u64]>,
-    placement: &mut Placement,
-    least: i64,
-) -> Result<Best, AllocError> {
-    let mut best = Best {
-        offsets: Vec::new(alloc),
-        flowspan: sum(signed(timing.cycle()), 1),
-    };
-    if let Some(offsets) = known {
+    // A schedule that is known: it's kept where it's valid.
+    fn take_known(
+        &mut self,
+        alloc: Global,
+        timing: &Timing,
+        offsets: &[u64],
+        placement: &mut Placement,
+    ) -> Result<(), AllocError> {
         if timing.is_valid(offsets) {
             let offsets = signed_list(alloc, offsets)?;
             placement.load(&offsets)?;
-            best.take(offsets, placement.flowspan());
+            self.take(offsets, placement.flowspan());
         }
+        Ok(())
     }
-    if best.flowspan > least
-        && placement.first(least, FIRST_WORK.wrapping_mul(timing.streams() as u64))?
-    {
-        let offsets = copy(alloc, placement.schedule())?;
-        if timing.is_valid(&unsigned_list(alloc, &offsets)?) {
-            best.take(offsets, placement.flowspan());
+
+    // Looks for a better one by placing.
+    fn place<H: Hear>(
+        &mut self,
+        alloc: Global,
+        timing: &Timing,
+        placement: &mut Placement,
+        work: u64,
+        listener: &Listener<'_, H>,
+    ) -> Result<(), AllocError> {
+        let work = work.wrapping_mul(timing.streams() as u64);
+        if placement.first(listener.least, work, listener)? {
+            let offsets = copy(alloc, placement.schedule())?;
+            if timing.is_valid(&unsigned_list(alloc, &offsets)?) {
+                self.take(offsets, placement.flowspan());
+            }
         }
+        Ok(())
     }
-    Ok(best)
+}
+
+// Hears of schedules before anything is asked; one of this flowspan is the best so far, and none has less than the bound.
+#[derive(Drop)]
+struct Listener<'a, H: Hear> {
+    hear: &'a H,
+    least: i64,
+    best: i64,
+}
+
+impl<'a, H: Hear> Notice for Listener<'a, H> {
+    fn notice(&self, flowspan: i64) {
+        self.hear.hear(CourseNews {
+            flowspan: Some(flowspan.min(self.best).unsigned_abs()),
+            bound: self.least.unsigned_abs(),
+            stream: None,
+            conflicts: 0,
+            work: 0,
+        });
+    }
 }
 
 /// A search with nothing given but the network, in which no schedule of more than this flowspan is in question, and so much work may
@@ -228,7 +276,7 @@ impl Course {
                 turn.note_found(less(most, least));
                 continue;
             }
-            match self.ask(streams, most, turn.share)? {
+            match self.ask(streams, most, turn.share())? {
                 Answered::Yes => {
                     turn.note_found(less(most, least));
                     self.shorten()?;
@@ -327,7 +375,7 @@ impl Course {
                     continue;
                 }
             }
-            match self.ask(stream, most, turn.share)? {
+            match self.ask(stream, most, turn.share())? {
                 Answered::Yes => turn.note_found(less(most, least)),
                 Answered::No => {
                     put(&mut self.lows, stream, sum(most, 1));

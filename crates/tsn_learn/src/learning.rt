@@ -91,7 +91,7 @@ pub fn learn<H: Hear>(
     budget: Budget,
     hear: &H,
 ) -> Result<LearnAnswer, NoMemory> {
-    let mut course = course_of(alloc, timing, known, budget)?;
+    let mut course = course_of(alloc, timing, known, budget, hear)?;
     let answered = course.answer(alloc, timing, budget, hear);
     drop(course);
     Ok(answered?)

@@ -4,7 +4,8 @@ use tsn_bounds::number::{less, sum};
 // How many conflicts the first question after the flowspan is worth, and the others at first.
 const FLOWSPAN: Worth = Worth {
     first: 50,
-    share: 50,
+    share: 100,
+    cut: 4,
     parts: 2,
     leaps: 128,
 };
@@ -13,6 +14,7 @@ const FLOWSPAN: Worth = Worth {
 const OFFSET: Worth = Worth {
     first: 300,
     share: 1000,
+    cut: 1,
     parts: 8,
     leaps: MOST_PARTS,
 };
@@ -24,14 +26,16 @@ const MOST_PARTS: i64 = 1 << 20;
 const LEAP: i64 = 256;
 
 // How often streams may have no room at first, where a schedule is looked for by placing.
-const TRIES: u64 = 2000;
+const TRIES: u64 = 8000;
 
-// How many conflicts the first question is worth, and the others at first; in how many parts what is left is parted at first; and the
-// part of it that a leap is at the least.
+// How many conflicts the first question is worth, and the others at first; of how many parts of that a question from below gets one,
+// where the last one from there wasn't decided; in how many parts what is left is parted at first; and the part of it that a leap is at
+// the least.
 #[derive(Clone, Copy)]
 struct Worth {
     first: u64,
     share: u64,
+    cut: u64,
     parts: i64,
     leaps: i64,
 }
@@ -42,12 +46,13 @@ pub struct Turn {
     is_first: bool,
     /// Whether it's asked from above.
     pub is_above: bool,
+    // Whether the last question from below found that there was nothing.
+    is_rising: bool,
     parts: i64,
     leap: i64,
     /// How often streams may have no room where a schedule is looked for by placing.
     pub tries: u64,
-    /// How many conflicts the question is worth.
-    pub share: u64,
+    share: u64,
     worth: Worth,
 }
 
@@ -76,6 +81,7 @@ impl Turn {
         Turn {
             is_first: true,
             is_above: false,
+            is_rising: false,
             parts: worth.parts,
             leap: 0,
             tries: TRIES,
@@ -101,6 +107,17 @@ impl Turn {
         }
     }
 
+    /// How many conflicts the question is worth: from below less, where the last one from there wasn't decided.
+    pub fn share(&self) -> u64 {
+        if self.is_first || self.is_above || self.is_rising {
+            return self.share;
+        }
+        match self.share.checked_div(self.worth.cut) {
+            Some(share) => share,
+            None => self.share,
+        }
+    }
+
     /// A schedule was found, with so much left: the next leap is twice as long.
     pub fn note_found(&mut self, room: i64) {
         if self.share == u64::MAX {
@@ -121,6 +138,7 @@ impl Turn {
         } else if self.is_above {
             self.leap = self.leap / 2;
         } else {
+            self.is_rising = true;
             self.parts = (self.parts / 2).max(2);
         }
     }
@@ -136,6 +154,7 @@ impl Turn {
             self.is_above = false;
             self.tries = self.tries.saturating_add(self.tries / 4);
         } else {
+            self.is_rising = false;
             self.parts = self.parts.wrapping_mul(4).min(MOST_PARTS);
             self.share = self.share.saturating_add(self.share / 2);
             self.is_above = true;

@@ -1,8 +1,6 @@
 //! Which flowspan is looked for next.
+use crate::effort::effort_for;
 use tsn_bounds::number::{less, sum};
-
-// How often streams may have no room, at first, with few of them.
-const TRIES: u64 = 200;
 
 // How often nothing may be found one nanosecond below, each time with twice as many tries.
 const MISSES: u64 = 10;
@@ -22,7 +20,7 @@ impl Aim {
     pub fn new(streams: usize) -> Aim {
         Aim {
             parts: 1,
-            tries: TRIES.wrapping_add(streams as u64),
+            tries: effort_for(streams).tries.wrapping_add(streams as u64),
             misses: 0,
         }
     }

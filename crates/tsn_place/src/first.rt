@@ -1,6 +1,8 @@
 //! First schedules: by some orders, each stream as early as those before it let it, then moved to the end and back to the start; and
 //! from the best of these towards a bound, by taking out who arrives too late.
 use crate::aim::Aim;
+use crate::effort::effort_for;
+use crate::notice::Notice;
 use crate::placement::Placement;
 use crate::rank::By;
 use std::alloc::AllocError;
@@ -8,9 +10,6 @@ use tsn_bounds::number::{FAR, index, push};
 
 // How many orders there are.
 const WAYS: usize = 7;
-
-// Of how many parts of the work one is for changes of the order.
-const SHARE: u64 = 4;
 
 // How often streams may have no room before those that wait are taken anew.
 const TRIES: u64 = 20_000;
@@ -20,14 +19,20 @@ const ROUNDS: usize = 4;
 
 impl Placement {
     /// Looks for a schedule of little flowspan, for as much work as this, or till one has this flowspan. Answers whether one is found.
-    pub fn first(&mut self, least: i64, work: u64) -> Result<bool, AllocError> {
+    pub fn first<N: Notice>(
+        &mut self,
+        least: i64,
+        work: u64,
+        notice: &N,
+    ) -> Result<bool, AllocError> {
         self.last_work = self.work.saturating_add(work);
         self.rivals.fixed = 0;
         self.kept.clear();
         self.limit(FAR);
         let best = self.try_orders(least)?;
         self.rank(By::Urgency(best))?;
-        let last_work = self.work.saturating_add(work / SHARE);
+        let for_changes = effort_for(self.streams()).for_changes(work);
+        let last_work = self.work.saturating_add(for_changes);
         self.try_changes(least, last_work)?;
         if self.kept.is_empty() && self.has_windows() {
             self.place_all()?;
@@ -36,7 +41,7 @@ impl Placement {
             self.clear();
             return Ok(false);
         }
-        self.lower(least)?;
+        self.lower(least, notice)?;
         Ok(true)
     }
 
@@ -182,12 +187,13 @@ impl Placement {
     }
 
     // Looks for schedules of lesser flowspan.
-    fn lower(&mut self, least: i64) -> Result<(), AllocError> {
+    fn lower<N: Notice>(&mut self, least: i64, notice: &N) -> Result<(), AllocError> {
         let mut aim = Aim::new(self.streams());
         for _ in 0..u64::MAX {
             if self.is_enough(least) || self.is_spent() || aim.is_over() {
                 break;
             }
+            notice.notice(self.flowspan);
             let target = aim.target(least, self.flowspan);
             if self.reach(target, aim.tries)? {
                 self.improve()?;

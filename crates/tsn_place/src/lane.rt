@@ -71,6 +71,10 @@ impl Lane {
         if instant >= 0 && instant < self.modulus {
             return instant;
         }
+        let next = sum(instant, self.modulus);
+        if instant < 0 && next >= 0 {
+            return next;
+        }
         let rest = match instant.checked_rem(self.modulus) {
             Some(rest) => rest,
             None => 0,
@@ -252,10 +256,7 @@ impl Lane {
         if first > window.greatest {
             return Ok(());
         }
-        let turns = match less(window.greatest, first).checked_div(self.modulus) {
-            Some(turns) => turns,
-            None => 0,
-        };
+        let turns = self.turns_in(less(window.greatest, first));
         let turn = if turns > 0 {
             dice.below((sum(turns, 1) & 0x7FFF_FFFF) as usize)
         } else {
@@ -268,6 +269,17 @@ impl Lane {
                 self.modulus.wrapping_mul((turn & 0x7FFF_FFFF) as i64),
             ),
         )
+    }
+
+    // How often the divisor goes into a time.
+    fn turns_in(&self, time: i64) -> i64 {
+        if time < self.modulus {
+            return 0;
+        }
+        match time.checked_div(self.modulus) {
+            Some(turns) => turns,
+            None => 0,
+        }
     }
 
     /// How many frames there are.

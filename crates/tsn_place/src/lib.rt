@@ -5,11 +5,13 @@
 
 mod aim;
 mod dice;
+pub mod effort;
 mod eject;
 mod first;
 mod lane;
 mod least;
 mod network;
+pub mod notice;
 mod orders;
 pub mod placement;
 mod rank;
