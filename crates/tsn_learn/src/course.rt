@@ -256,7 +256,7 @@ impl Course {
     // Finds the least flowspan, from both ends.
     fn lower_flowspan<H: Hear>(&mut self, hear: &H) -> Result<State, AllocError> {
         let streams = self.search.known.table.streams();
-        let mut turn = Turn::of_flowspan(!self.best.is_empty());
+        let mut turn = Turn::of_flowspan(!self.best.is_empty(), streams);
         self.take_part(1);
         self.ask_by_links()?;
         for _ in 0..u64::MAX {

@@ -25,7 +25,11 @@ const MOST_PARTS: i64 = 1 << 20;
 // How much less is asked for at the least, after a schedule was found, than one less than its value, in nanoseconds.
 const LEAP: i64 = 256;
 
-// How often streams may have no room at first, where a schedule is looked for by placing.
+// How often streams may have no room at first, where a schedule is looked for by placing: of so many streams or fewer, and of more.
+const FEW_STREAMS: usize = 128;
+
+const FEW_TRIES: u64 = 2000;
+
 const TRIES: u64 = 8000;
 
 // How many conflicts the first question is worth, and the others at first; of how many parts of that a question from below gets one,
@@ -59,8 +63,11 @@ pub struct Turn {
 impl Turn {
     /// The first question is whether the flowspan can have the least value; where no schedule is known, whether there is one, however
     /// long that takes.
-    pub fn of_flowspan(is_known: bool) -> Turn {
-        let turn = Turn::with(FLOWSPAN);
+    pub fn of_flowspan(is_known: bool, streams: usize) -> Turn {
+        let mut turn = Turn::with(FLOWSPAN);
+        if streams > FEW_STREAMS {
+            turn.tries = TRIES;
+        }
         if is_known {
             return turn;
         }
@@ -84,7 +91,7 @@ impl Turn {
             is_rising: false,
             parts: worth.parts,
             leap: 0,
-            tries: TRIES,
+            tries: FEW_TRIES,
             share: worth.first,
             worth,
         }
