@@ -39,13 +39,6 @@ pub fn put(numbers: &mut [i64], place: usize, number: i64) {
     put_item(numbers, place, number);
 }
 
-/// Writes the same number at each place.
-pub fn fill(numbers: &mut [i64], number: i64) {
-    for one in numbers.iter_mut() {
-        *one = number;
-    }
-}
-
 /// The index at this place; none where there is none.
 pub fn index_at(indices: &[u32], place: usize) -> u32 {
     item_at(indices, place, NONE)
@@ -84,14 +77,6 @@ pub fn less(one: i64, other: i64) -> i64 {
 /// The place behind this one.
 pub fn next(place: usize) -> usize {
     place.wrapping_add(1)
-}
-
-/// Puts the numbers below this one behind the others.
-pub fn count_up(places: &mut Vec<usize>, count: usize) -> Result<(), AllocError> {
-    for place in 0..count {
-        push(places, place)?;
-    }
-    Ok(())
 }
 
 /// The number with a sign.

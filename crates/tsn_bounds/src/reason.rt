@@ -53,7 +53,6 @@ pub struct Placing {
 #[derive(Clone, Copy)]
 pub struct Packing {
     pub link: u32,
-    pub side: u32,
     pub frames: Part,
 }
 

@@ -131,18 +131,12 @@ impl Record {
     }
 
     /// Keeps a packing of these frames, and answers its number.
-    pub fn keep_packing(
-        &mut self,
-        link: u32,
-        side: u32,
-        frames: &[u16],
-    ) -> Result<u32, AllocError> {
+    pub fn keep_packing(&mut self, link: u32, frames: &[u16]) -> Result<u32, AllocError> {
         let number = index(self.packings.len());
         let start = self.places.len();
         self.places.extend_from_slice(frames)?;
         let packing = Packing {
             link,
-            side,
             frames: Part {
                 start,
                 count: frames.len(),

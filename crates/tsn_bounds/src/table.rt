@@ -5,7 +5,6 @@ use std::alloc::{AllocError, Global};
 /// A stream.
 #[derive(Clone, Copy)]
 pub struct Body {
-    pub period: i64,
     /// The least offset.
     pub release: i64,
     /// When the last frame of a period arrives, from the offset on.
@@ -95,7 +94,6 @@ pub struct Rivals {
 }
 
 const NO_BODY: Body = Body {
-    period: 0,
     release: 0,
     arrival: 0,
     latest: 0,
@@ -265,11 +263,6 @@ impl Table {
     /// The pair of this number.
     pub fn pair(&self, number: usize) -> Pair {
         item_at(&self.pairs, number, NO_PAIR)
-    }
-
-    /// The stream of this number.
-    pub fn body(&self, stream: usize) -> Body {
-        item_at(&self.bodies, stream, NO_BODY)
     }
 
     /// When the stream arrives, from its offset on.

@@ -82,11 +82,6 @@ impl Placement {
         self.flowspan
     }
 
-    /// How often a lane was looked at.
-    pub fn work(&self) -> u64 {
-        self.work
-    }
-
     /// No lesser offset of a stream is in question.
     pub fn raise(&mut self, stream: usize, low: i64) {
         let low = low.max(at(&self.lows, stream));

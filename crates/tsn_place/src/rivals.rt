@@ -80,11 +80,4 @@ impl Rivals {
     pub fn stream(&self, place: usize) -> usize {
         index_at(&self.list, place) as usize
     }
-
-    /// Forgets what streams weigh.
-    pub fn forget(&mut self) {
-        for one in self.weights.iter_mut() {
-            *one = 1;
-        }
-    }
 }

@@ -141,6 +141,22 @@ impl Fills {
         Ok(())
     }
 
+    /// Looks at the set that leaves least, and then at the first such one if nothing is found of that.
+    pub fn search_both(
+        &mut self,
+        heads: &[Standing],
+        first: Tight,
+        last: Tight,
+        link: u32,
+        side: u32,
+    ) -> Result<(), AllocError> {
+        self.search(heads, last, link, side)?;
+        if !self.is_wasted && self.found.is_empty() && first.end < last.end {
+            self.search(heads, first, link, side)?;
+        }
+        Ok(())
+    }
+
     // The frames of at most the set's end that have to be done by it, but for its idle time. Whether there are enough.
     fn take_set(&mut self, heads: &[Standing], tight: Tight) -> Result<bool, AllocError> {
         self.set.clear();
@@ -172,7 +188,8 @@ impl Fills {
         self.back.clear();
         let mut low = self.begin;
         let mut before = NONE;
-        for (number, own) in self.set.iter().enumerate() {
+        for number in 0..self.set.len() {
+            let own = self.own(number);
             push(&mut self.back, number)?;
             if sum(own.head, own.work) < own.end {
                 continue;
@@ -180,34 +197,32 @@ impl Fills {
             push(&mut self.fixed, short(own.place))?;
             let after = index(number);
             let high = own.head;
-            if high > low {
-                push(
-                    &mut self.gaps,
-                    Gap {
-                        low,
-                        high,
-                        before,
-                        after,
-                    },
-                )?;
-            }
-            low = own.end;
-            before = after;
-        }
-        let high = self.tight.end;
-        if high > low {
-            let last = Gap {
+            self.push_gap(Gap {
                 low,
                 high,
                 before,
-                after: NONE,
-            };
-            push(&mut self.gaps, last)?;
+                after,
+            })?;
+            low = own.end;
+            before = after;
         }
+        self.push_gap(Gap {
+            low,
+            high: self.tight.end,
+            before,
+            after: NONE,
+        })?;
         let set = self.set.as_slice();
         self.back.sort_unstable_by_key(|number| item_at(set, *number, NO_STANDING)
             .end
             .wrapping_neg());
+        Ok(())
+    }
+
+    fn push_gap(&mut self, gap: Gap) -> Result<(), AllocError> {
+        if gap.high > gap.low {
+            push(&mut self.gaps, gap)?;
+        }
         Ok(())
     }
 

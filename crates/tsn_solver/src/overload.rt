@@ -30,10 +30,7 @@ impl Search {
             push(&mut self.known.clash, last)?;
         }
         let crowd = self.rooms.crowd();
-        let kept = self
-            .known
-            .record
-            .keep_packing(overload.link, overload.side, crowd)?;
+        let kept = self.known.record.keep_packing(overload.link, crowd)?;
         self.known.clash_deed = Some(Deed::Pack(kept));
         Ok(())
     }

@@ -238,47 +238,57 @@ impl Rooms {
             room.turn();
         }
         for number in 0..room.groups.len() {
-            let group = room.group(number);
-            if !group.is_open {
-                continue;
-            }
-            let count = group.to.wrapping_sub(group.from);
-            self.looked = self.looked.wrapping_add(count);
-            let from = if side == 0 {
-                group.from
-            } else {
-                room.count().wrapping_sub(group.to)
-            };
-            let sight = Sight {
-                link: index(link),
-                side,
-                end: 0,
-            };
-            let rows = room.rows(side);
-            let heads = row_of(&rows.heads, from, count);
-            let ends = row_of(&rows.ends, from, count);
-            let overload = self
-                .sweep
-                .search(heads, ends, from, sight, &mut self.found)?;
-            if overload.is_some() {
+            let overload = self.look_at_group(link, side, number)?;
+            if overload.is_some() || self.fills.is_wasted {
                 return Ok(overload);
             }
-            let tight = self.sweep.tight;
-            let least = least_work(heads);
-            if self.found.is_empty() && tight.idle < least {
-                let first = self.sweep.first_tight;
-                self.fills.search(heads, tight, sight.link, side)?;
-                if !self.fills.is_wasted && self.fills.found.is_empty() && first.end < tight.end {
-                    self.fills.search(heads, first, sight.link, side)?;
-                }
-                self.looked = self.looked.wrapping_add(self.fills.looked);
-                if self.fills.is_wasted {
-                    return Ok(None);
-                }
-            }
-            self.sweep.note_tight(less(tight.idle, least));
-            room.note_ease(number, self.sweep.ease);
         }
+        Ok(None)
+    }
+
+    fn look_at_group(
+        &mut self,
+        link: usize,
+        side: u32,
+        number: usize,
+    ) -> Result<Option<Overload>, AllocError> {
+        let Some(room) = self.rooms.get_mut(link) else {
+            return Ok(None);
+        };
+        let group = room.group(number);
+        if !group.is_open {
+            return Ok(None);
+        }
+        let count = group.to.wrapping_sub(group.from);
+        self.looked = self.looked.wrapping_add(count);
+        let from = room.begin_of(group, side);
+        let sight = Sight {
+            link: index(link),
+            side,
+            end: 0,
+        };
+        let rows = room.rows(side);
+        let heads = row_of(&rows.heads, from, count);
+        let ends = row_of(&rows.ends, from, count);
+        let overload = self
+            .sweep
+            .search(heads, ends, from, sight, &mut self.found)?;
+        if overload.is_some() {
+            return Ok(overload);
+        }
+        let tight = self.sweep.tight;
+        let least = least_work(heads);
+        if self.found.is_empty() && tight.idle < least {
+            let first = self.sweep.first_tight;
+            self.fills
+                .search_both(heads, first, tight, sight.link, side)?;
+            self.looked = self.looked.wrapping_add(self.fills.looked);
+            if self.fills.is_wasted {
+                return Ok(None);
+            }
+        }
+        self.sweep.note_tight(less(tight.idle, least));
+        room.note_ease(number, self.sweep.ease);
         Ok(None)
     }
 

@@ -1,9 +1,7 @@
-//! Both ends of the conflict-driven search: a problem becomes the numbers that it goes by, with a first schedule; and what it found out
-//! becomes an argument, as the checker reads it. Nothing is claimed of this but that it is safe and returns. Each error says that there
-//! was no memory.
+//! Both ends of the conflict-driven search: a problem becomes the numbers that it goes by; and what it found out becomes an argument, as
+//! the checker reads it. Nothing is claimed of this but that it is safe and returns. Each error says that there was no memory.
 #![tactic(auto)]
 
-pub mod first;
 mod need;
 mod orders;
 pub mod table;

@@ -49,7 +49,6 @@ fn body_of(timing: &Timing, stream: usize) -> Body
 {
     let window = timing.window(stream);
     Body {
-        period: signed(timing.period(stream)),
         release: signed(window.least),
         arrival: signed(timing.arrival(stream)),
         latest: window.greatest,

@@ -2,8 +2,7 @@
 use tsn_bounds::known::{Known, is_impossible};
 use tsn_bounds::literal::Literal;
 use tsn_bounds::number::{FAR, NONE, at, index, less, put, sum};
-use tsn_bounds::reason::{Filling, Packing, Placing};
-use tsn_bounds::record::places_of;
+use tsn_bounds::reason::{Filling, Placing};
 use tsn_bounds::side::{bound_of, lead};
 use tsn_bounds::table::Visit;
 
@@ -136,15 +135,9 @@ pub fn behind(places: &[u16], count: usize) -> &[u16] {
     }
 }
 
-/// Makes the move of a packing.
-pub fn make_packing(known: &Known, view: &mut [i64], packing: Packing) -> Made {
-    let link = packing.link as usize;
-    let frames = places_of(&known.record.places, packing.frames);
-    let stay = stay_of(known, view, link, packing.side, frames);
-    if !stay.is_too_long() {
-        return Made::Wrong;
-    }
-    make_impossible(known, view)
+/// Whether frames don't fit where a view leaves them on a link.
+pub fn is_overfull(known: &Known, view: &[i64], link: usize, frames: &[u16]) -> bool {
+    stay_of(known, view, link, 0, frames).is_too_long()
 }
 
 /// Makes the move that a frame can't start before an instant of a room, or none where the view has it at that already, or past it. Answers

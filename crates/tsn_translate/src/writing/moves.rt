@@ -1,8 +1,8 @@
 //! The moves of deeds.
 use crate::orders::stronger;
 use crate::view::{
-    Made, behind, is_contradicted, is_out_of_reach, left_of, make_arrival, make_filling, make_go,
-    make_impossible, make_packing, make_placing, make_turn, make_use,
+    Made, behind, is_contradicted, is_out_of_reach, is_overfull, left_of, make_arrival,
+    make_filling, make_go, make_impossible, make_placing, make_turn, make_use,
 };
 use crate::writing::Writing;
 use std::alloc::AllocError;
@@ -184,14 +184,26 @@ impl Writing<'_> {
         };
         let link = packing.link as usize;
         let list = places_of(&known.record.places, packing.frames);
-        match self.frames_of(link, list)? {
-            Some(frames) => {
-                let number = known.table.link_number(link);
-                push(&mut self.moves, Move::Pack(number, frames))?;
-                Ok(make_packing(known, self.numbers(is_ground), packing))
-            }
-            None => Ok(Made::Wrong),
+        if is_overfull(known, self.numbers(is_ground), link, list) {
+            self.write_overfull(link, list, is_ground)
+        } else {
+            Ok(Made::Wrong)
         }
+    }
+
+    fn write_overfull(
+        &mut self,
+        link: usize,
+        list: &[u16],
+        is_ground: bool,
+    ) -> Result<Made, AllocError> {
+        let known = self.known;
+        let Some(frames) = self.frames_of(link, list)? else {
+            return Ok(Made::Wrong);
+        };
+        let number = known.table.link_number(link);
+        push(&mut self.moves, Move::Pack(number, frames))?;
+        Ok(make_impossible(known, self.numbers(is_ground)))
     }
 
     fn write_filling(&mut self, number: usize, is_ground: bool) -> Result<Made, AllocError> {
@@ -206,6 +218,10 @@ impl Writing<'_> {
         };
         let link = filling.link as usize;
         let frames = places_of(places, filling.frames);
+        // A narrower view than that in which sums were found may leave the frames no room, and then no idle time to hold sums against.
+        if is_overfull(known, self.numbers(is_ground), link, frames) {
+            return self.write_overfull(link, frames, is_ground);
+        }
         let Some(others) = self.others_of(link, frames, filling.place)? else {
             return Ok(Made::Wrong);
         };
@@ -267,6 +283,9 @@ impl Writing<'_> {
         };
         let link = wasting.link as usize;
         let list = places_of(&known.record.places, wasting.frames);
+        if is_overfull(known, self.numbers(is_ground), link, list) {
+            return self.write_overfull(link, list, is_ground);
+        }
         let Some(frames) = self.frames_of(link, list)? else {
             return Ok(Made::Wrong);
         };
