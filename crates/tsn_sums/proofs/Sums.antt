@@ -1,5 +1,5 @@
 -- Which multiples of a unit works reach.
-use Rattle.std.proofs.Common.{◌≡◌, ℕ, zero, suc, ◌+◌, ◌-◌, ◌*◌, ◌/◌, ◌%◌, ◌≤◌, ◌<◌, List, [], ◌∷◌, ◌++◌, length, take, drop, append-nil, get_or, leb, cond, Bool, true, false, All, refl, sym, ap, ◌∙◌, subst, arith, inl, inr}
+use Rattle.std.proofs.Common.{◌≡◌, ℕ, zero, suc, ◌+◌, ◌-◌, ◌*◌, ◌/◌, ◌%◌, ◌≤◌, ◌<◌, List, [], ◌∷◌, ◌++◌, length, take, drop, append-nil, get_or, set, leb, cond, Bool, true, false, All, refl, sym, ap, ◌∙◌, subst, arith, inl, inr}
 use Rattle.std.proofs.lemmas.Bool.{cases_Bool, cases_lt, cond-true, cond-false, true≢false, le-leb, lt-leb, leb-true}
 use Rattle.std.proofs.lemmas.List.{drop_more, drop_all, take_all}
 use Rattle.std.proofs.lemmas.List.Elements.{All-head, All-tail}
@@ -144,13 +144,42 @@ none_reached unit units table some first others (suc k) within =
     let more = mul-le 1 1 (suc k) unit (omega arith) some in
     others (suc k) (omega arith) ∙ sym (lt-leb (suc k * unit) 0 (omega arith))
 
-pub marked_same : (now old : List Bool) (need back unit k : ℕ) → get_or now k false ≡ get_or old k false
-    → get_or now (k - back) false ≡ get_or old (k - back) false
-    → marked now need back unit k ≡ marked old need back unit k
+cond_self : (b : Bool) → cond b true false ≡ b
+cond_self true = refl
+cond_self false = refl
+
+cond_same : (b : Bool) → cond b false false ≡ false
+cond_same true = refl
+cond_same false = refl
+
+-- what asks for more than there is marks nothing, and what is marked stays
+pub marked_below : (table : List Bool) (need back unit k : ℕ) → k * unit < need → marked table need back unit k ≡ get_or table k false
 unfolding marked
-marked_same now old need back unit k here before =
-    ap (λ b. cond b true (cond (leb need (k * unit)) (get_or now (k - back) false) false)) here
-    ∙ ap (λ b. cond (get_or old k false) true (cond (leb need (k * unit)) b false)) before
+marked_below table need back unit k below =
+    ap (λ b. cond (get_or table k false) true b) (cond-false (leb need (k * unit)) (get_or table (k - back) false) false (lt-leb need (k * unit) below))
+    ∙ cond_self (get_or table k false)
+
+pub marked_already : (table : List Bool) (need back unit k : ℕ) → get_or table k false ≡ true → marked table need back unit k ≡ true
+unfolding marked
+marked_already table need back unit k there = cond-true (get_or table k false) true (cond (leb need (k * unit)) (get_or table (k - back) false) false) there
+
+pub marked_more : (table : List Bool) (need back unit k : ℕ) → get_or table k false ≡ false → need ≤ k * unit
+    → marked table need back unit k ≡ get_or table (k - back) false
+unfolding marked
+marked_more table need back unit k not_there enough =
+    cond-false (get_or table k false) true (cond (leb need (k * unit)) (get_or table (k - back) false) false) not_there
+    ∙ cond-true (leb need (k * unit)) (get_or table (k - back) false) false (le-leb need (k * unit) enough)
+
+pub marked_none : (table : List Bool) (need back unit k : ℕ) → get_or table k false ≡ false → get_or table (k - back) false ≡ false
+    → marked table need back unit k ≡ false
+unfolding marked
+marked_none table need back unit k not_there not_before =
+    cond-false (get_or table k false) true (cond (leb need (k * unit)) (get_or table (k - back) false) false) not_there
+    ∙ ap (λ b. cond (leb need (k * unit)) b false) not_before
+    ∙ cond_same (leb need (k * unit))
+
+pub set_as : (old now : List Bool) (place : ℕ) (one other : Bool) → now ≡ set old place one → one ≡ other → now ≡ set old place other
+set_as old now place one other is same = is ∙ ap (set old place) same
 
 pub most_next : (table : List Bool) (unit place most : ℕ) → (place ≡ 0 → most ≡ 0) → ((k : ℕ) → k + 1 ≡ place → most ≡ most_marked table unit k)
     → cond (get_or table place false) (place * unit) most ≡ most_marked table unit place

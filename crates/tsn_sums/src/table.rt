@@ -81,24 +81,6 @@ fn clear(reached: &mut [bool])
     }
 }
 
-// Whether a place is reached, or with one more work.
-#[tactic(auto, unfolding(crate::specs::Sums::marked))]
-fn is_marked(reached: &[bool], need: u64, back: usize, unit: u64, place: usize) -> bool
-    requires there { place < length reached.now }
-    requires fits { need ≤ place * unit → back ≤ place }
-    requires short { unit < 2 ^ 32 }
-    requires most { place ≤ 4_096 }
-    ensures { result ≡ marked reached.now need back unit place }
-{
-    if reached[place] {
-        true
-    } else if need <= place as u64 * unit {
-        reached[place - back]
-    } else {
-        false
-    }
-}
-
 // Marks what is reached with one more work, of so many units, that asks for so much.
 fn mark(reached: &mut [bool], need: u64, back: usize, unit: u64, units: usize)
     requires some { 0 < back }
@@ -108,10 +90,16 @@ fn mark(reached: &mut [bool], need: u64, back: usize, unit: u64, units: usize)
     requires most { units ≤ 4_096 }
     ensures length { length reached.new ≡ length reached.old }
     ensures marked { (k : ℕ) → k ≤ units → slice_index_or reached.new k false ≡ marked reached.old need back unit k }
+    ensures past { (k : ℕ) → units < k → slice_index_or reached.new k false ≡ slice_index_or reached.old k false }
 {
     for step in 0..units + 1 {
         let place = units - step;
-        reached[place] = is_marked(reached, need, back, unit, place);
+        if need > place as u64 * unit {
+            return;
+        }
+        if !reached[place] {
+            reached[place] = reached[place - back];
+        }
     }
 }
 
@@ -126,9 +114,13 @@ fn reach_all(reached: &mut [bool], works: &[(u64, u64)], unit: u64, units: usize
     ensures tells { TellsReached works.now unit units reached.new }
 {
     clear(reached);
+    // Past this place nothing is reached.
+    let mut most = 0;
     for step in 0..works.len() {
         let (least, work) = works[works.len() - (step + 1)];
-        mark(reached, least + work, (work / unit) as usize, unit, units);
+        let back = (work / unit) as usize;
+        most = back.saturating_add(most).min(units);
+        mark(reached, least + work, back, unit, most);
     }
 }
 

@@ -1,13 +1,16 @@
-use Rattle.std.proofs.Common.{◌≡◌, ◌+◌, ◌-◌, drop, get_or, length, refl, sym, ap, ◌∙◌, subst, arith}
+use Rattle.std.proofs.Common.{◌≡◌, ℕ, ◌+◌, ◌-◌, ◌/◌, ◌≤◌, ◌<◌, drop, get_or, length, false, refl, sym, ap, ◌∙◌, subst, inl, inr, arith}
+use Rattle.std.proofs.lemmas.Bool.{cases_lt}
 use Rattle.std.proofs.lemmas.List.{drop_all}
-use Rattle.tsn_sums.specs.Sums.{TellsReached}
-use Rattle.tsn_sums.proofs.Sums.{none_reached, marked_is, one_more, units_fit, some_units}
+use Rattle.tsn_sums.specs.Sums.{TellsReached, marked}
+use Rattle.tsn_sums.proofs.Sums.{none_reached, marked_is, marked_none, one_more, units_fit, some_units}
 use Rattle.tsn_sums.proofs.table.reach_all.Goals as goal
 
 pub loop-step-init : goal.loop-step-init
 loop-step-init c =
     let none = drop_all (length c.args.works.now - 0) c.args.works.now (omega arith) in record {
       even = refl;
+      within = omega arith;
+      past = λ k after within. c.clear.ensures.others k (omega (arith, after));
       tells = subst (λ works. TellsReached works c.args.unit c.args.units c.clear.new.reached) (sym none)
           (none_reached c.args.unit c.args.units c.clear.new.reached c.requires.unit.some c.clear.ensures.first c.clear.ensures.others);
     }
@@ -28,12 +31,26 @@ loop-step-preserved c =
     let works = c.args.works.now in
     let place = length works - (c.loop-step.step + 1) in
     let here = c.requires.unit.each place (0, 0) (omega arith) in
-    let more = one_more works c.loop-step.step (0, 0) (omega arith) in record {
+    let more = one_more works c.loop-step.step (0, 0) (omega arith) in
+    let before = c.loop-step.reached in
+    let row = get_or works place (0, 0) in
+    let none : (k : ℕ) → c.min-most.result < k → k ≤ c.args.units → get_or c.mark.new.reached k false ≡ false = λ k after within.
+    c.mark.ensures.past k after ∙ old.past k (omega (arith, after, within)) within in
+    let all : (k : ℕ) → k ≤ c.args.units → get_or c.mark.new.reached k false ≡ marked before (row.0 + row.1) (row.1 / c.args.unit) c.args.unit k = λ k within.
+    elim (cases_lt c.min-most.result k) [
+      | inr reached ↦ c.mark.ensures.marked k reached
+      | inl after ↦
+          none k after within
+          ∙ sym (marked_none before (row.0 + row.1) (row.1 / c.args.unit) c.args.unit k (old.past k (omega (arith, after, within)) within)
+          (old.past (k - row.1 / c.args.unit) (omega (arith, after, within)) (omega (arith, within))))
+    ] in
+    record {
       even = c.mark.ensures.length ∙ old.even;
+      within = omega arith;
+      past = none;
       tells = subst (λ list. TellsReached list c.args.unit c.args.units c.mark.new.reached) (sym more)
-          (λ k within. c.mark.ensures.marked k within
-          ∙ marked_is c.args.unit c.args.units (drop (length works - c.loop-step.step) works) c.loop-step.reached old.tells c.requires.unit.some
-          (get_or works place (0, 0)) here.1 k within);
+          (λ k within. all k within
+          ∙ marked_is c.args.unit c.args.units (drop (length works - c.loop-step.step) works) before old.tells c.requires.unit.some row here.1 k within);
     }
 
 pub returns-clause-tells : goal.returns-clause-tells
