@@ -236,15 +236,6 @@ impl<'a> Tokens<'a> {
         }
     }
 
-    /// Passes an array, whose values nest no deeper than so many levels.
-    pub fn skip_array(&mut self, levels: usize) -> Result<(), Unread> {
-        self.open_array()?;
-        'values: while !self.take_end() {
-            self.skip_value(levels)?;
-        }
-        Ok(())
-    }
-
     /// Passes all. Whether each number is an `i64` or a `u64`.
     pub fn have_plain_numbers(&mut self) -> bool
         ensures { result ≡ true → ArePlain self.old }

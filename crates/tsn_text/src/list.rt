@@ -44,13 +44,6 @@ impl<T: Copy> ListBuilder<T> {
         }
     }
 
-    /// These behind.
-    pub fn push_all(&mut self, these: &[T]) {
-        if !self.is_refused {
-            self.is_refused = self.list.extend_from_slice(these).is_err();
-        }
-    }
-
     /// Takes the last one away.
     pub fn pop(&mut self) -> Option<T> {
         self.list.pop()

@@ -58,12 +58,4 @@ impl TextBuilder {
     pub fn push_count(&mut self, count: usize) {
         self.push_number(count as u64);
     }
-
-    /// Writes a number's digits, behind its sign where it is below 0.
-    pub fn push_signed(&mut self, number: i64) {
-        if number < 0 {
-            self.push('-');
-        }
-        self.push_number(number.unsigned_abs());
-    }
 }
