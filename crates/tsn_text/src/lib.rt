@@ -4,6 +4,7 @@
 
 mod field;
 mod list;
+pub mod pieces;
 mod shown;
 mod text;
 

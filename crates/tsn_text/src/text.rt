@@ -1,6 +1,6 @@
 //! Texts in the making.
 use std::alloc::{AllocError, Global};
-use std::fmt::Write;
+use std::fmt::{Display, Write};
 
 /// A text in the making.
 #[derive(Drop)]
@@ -51,6 +51,13 @@ impl TextBuilder {
     pub fn push_number(&mut self, number: u64) {
         if !self.is_refused {
             self.is_refused = write!(self.text, "{number}").is_err();
+        }
+    }
+
+    /// Writes what writes itself.
+    pub fn push_shown<D: Display + Drop>(&mut self, shown: D) {
+        if !self.is_refused {
+            self.is_refused = write!(self.text, "{shown}").is_err();
         }
     }
 
