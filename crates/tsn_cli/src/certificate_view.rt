@@ -22,9 +22,8 @@ use tsn_codec::certificate_or_refuse;
 use tsn_device::device::{ReadFault, Source, read_all};
 use tsn_model::NoMemory;
 use tsn_outcome::run::MAX_FILE;
-use tsn_outcome::{
-    Answer, Claim, FileKind, cert_rejection, file_refusal, line_on_argument, line_on_tree,
-};
+use tsn_outcome::{Answer, FileKind, cert_rejection, file_refusal};
+use tsn_reason::{Claim, line_on_argument, line_on_tree};
 use tsn_timing::Problem;
 
 /// What a command makes of a plan whose certificate is accepted.

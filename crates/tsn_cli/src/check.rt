@@ -12,7 +12,8 @@ use tsn_cert::{Certificate, Plan};
 use tsn_check::Verdict;
 use tsn_device::device::{Sink, Source};
 use tsn_model::NoMemory;
-use tsn_outcome::{Answer, Claim, Outcome};
+use tsn_outcome::{Answer, Outcome};
+use tsn_reason::Claim;
 
 /// Reads a network file, a plan file and a certificate file of format 1, 2 or 3, each judged before the next is read, and writes a
 /// line on the first that is refused, or on what the certificate shows. The answer is the status.

@@ -9,7 +9,8 @@ use tsn_codec::plan_or_refuse;
 use tsn_device::device::{ReadFault, Source, read_all};
 use tsn_net::{Refused, read_or_refuse};
 use tsn_outcome::run::MAX_FILE;
-use tsn_outcome::{Answer, FileKind, file_refusal, network_line, refusal};
+use tsn_outcome::{Answer, FileKind, file_refusal, refusal};
+use tsn_reason::network_line;
 use tsn_timing::Problem;
 
 /// A network, or the line on why its file is refused.

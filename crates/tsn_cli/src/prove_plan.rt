@@ -20,7 +20,8 @@ use tsn_check::{PlanFault, judge_claim};
 use tsn_codec::{argument_to_json, plan_to_json};
 use tsn_device::device::{ReadFault, Sink, Source};
 use tsn_model::NoMemory;
-use tsn_outcome::{Answer, Claim, Outcome, Stop, line_on_plan, rejection};
+use tsn_outcome::{Answer, Outcome, Stop, rejection};
+use tsn_reason::{Claim, line_on_plan};
 use tsn_timing::Problem;
 
 /// Reads a network file and a plan file, the first judged before the second is read, and seeks a valid schedule that undercuts the

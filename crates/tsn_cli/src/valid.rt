@@ -9,7 +9,8 @@ use crate::shown::{Shown, show};
 use std::alloc::Global;
 use tsn_device::device::{Sink, Source};
 use tsn_model::NoMemory;
-use tsn_outcome::{Answer, Outcome, Schedule, offsets_line};
+use tsn_outcome::{Answer, Outcome};
+use tsn_reason::{Schedule, offsets_line};
 use tsn_timing::{Problem, Validity};
 
 /// Reads a network file, judges the offsets (nanoseconds, of any size, in the order of the file's streams), and writes

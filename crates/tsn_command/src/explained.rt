@@ -16,7 +16,8 @@ use tsn_cli::options::drawing_of;
 use tsn_cli::{CertificateView, Shown, Table, plan_shown};
 use tsn_explain::{Tracker, explanation, explanation_by, is_large, marked_frames};
 use tsn_model::NoMemory;
-use tsn_outcome::{Claim, Given, Made, Ran};
+use tsn_outcome::{Given, Made, Ran};
+use tsn_reason::Claim;
 use tsn_words::{ChartWords, ExplainWords};
 
 // The most conflicts of the search for an argument that is told in place of a large tree.

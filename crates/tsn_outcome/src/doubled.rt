@@ -2,9 +2,9 @@
 ghost use Rattle.std.specs.Prelude.{◌≡◌};
 
 use std::alloc::{AllocError, Global};
-use std::fmt;
 use std::rt::Files;
 use tsn_device::are_one_file;
+use tsn_text::TextBuilder;
 use tsn_words::Words;
 
 // A file that a run reads or writes: the option and the word that name it, and its path.
@@ -13,13 +13,6 @@ struct Named<'a> {
     option: &'a str,
     word: &'a str,
     path: &'a str,
-}
-
-impl fmt::Display for Named<'_> {
-    fn fmt<W: fmt::Write>(&self, f: &mut fmt::Formatter<W>) -> fmt::Result {
-        f.write_str(self.option)?;
-        f.write_str(self.word)
-    }
 }
 
 /// Why the words are refused, where they name a file twice.
@@ -51,9 +44,18 @@ pub fn doubled_in<R: Files>(
 }
 
 fn refusal(alloc: Global, left: Named<'_>, right: Named<'_>) -> Result<String, AllocError> {
-    format!(in alloc;
-        "error: '{left}' and '{right}' lead to one file\n\nFor more information, try '--help'.\n"
-    )
+    let mut text = TextBuilder::new(alloc);
+    push_file(&mut text, "error: '", left);
+    push_file(&mut text, "' and '", right);
+    text.push_str("' lead to one file\n\nFor more information, try '--help'.\n");
+    text.finish()
+}
+
+// Writes words, and how the file is named.
+fn push_file(text: &mut TextBuilder, words: &str, file: Named<'_>) {
+    text.push_str(words);
+    text.push_str(file.option);
+    text.push_str(file.word);
 }
 
 // The files that have to differ: the plan and the certificate that are written, and each of these from what is read and from where

@@ -2,8 +2,6 @@
 //! which status, an outcome as an object of JSON too, for whoever reads it by a program.
 //!
 //! What the system gives a command (`System`): files and standard streams; and what is told where no command runs (`no_command`).
-//!
-//! Why what was read is refused (`why`), in a line of words beside the outcome.
 #![tactic(auto)]
 
 mod answer;
@@ -16,11 +14,11 @@ pub mod no_command;
 mod object;
 mod outcome;
 pub mod reason;
+mod refusals;
 pub mod run;
 pub mod stop;
 mod system;
 pub mod told;
-mod why;
 
 pub use answer::Answer;
 pub use answering::outcome_of;
@@ -29,11 +27,8 @@ pub use doubled::doubled_in;
 pub use no_command::{no_memory, refuse, show};
 pub use outcome::{FileKind, Outcome};
 pub use reason::failure_line;
+pub use refusals::{cert_rejection, file_refusal, refusal, rejection};
 pub use stop::Stop;
 pub use system::System;
 pub use told::Ran;
 pub use tsn_device::{FileSink, FileSource, WriterSink};
-pub use why::{
-    Claim, Reason, Schedule, cert_rejection, file_refusal, line_on_argument, line_on_plan,
-    line_on_tree, network_line, offsets_line, refusal, rejection,
-};

@@ -2,13 +2,13 @@
 ghost use Rattle.std.specs.Prelude.{◌<◌};
 ghost use Rattle.tsn_model.specs.Network.{stream_count};
 
-use crate::why::names::{Later, LinkName, StreamName};
-use crate::why::{Reason, Written};
+use crate::Reason;
+use crate::names::{push_later, push_link, push_stream};
 use std::alloc::Global;
-use std::fmt::Write;
 use tsn_listeners::arrival_words;
 use tsn_model::{Triple, Violation};
-use tsn_text::line_of;
+use tsn_text::pieces::{push_count, push_number, push_signed};
+use tsn_text::{TextBuilder, line_of};
 use tsn_timing::{Problem, Timing};
 
 /// Offsets of the streams of a network, in nanoseconds.
@@ -39,33 +39,29 @@ pub fn offsets_line(
     schedule: Schedule<'_>,
     violation: Violation,
 ) -> Reason {
-    let mut text = line_of(alloc, name).finish()?;
-    push_violation(&mut text, schedule, violation)?;
-    Ok(Some(text))
+    let mut text = line_of(alloc, name);
+    push_violation(&mut text, schedule, violation);
+    Ok(Some(text.finish()?))
 }
 
 /// Writes what the violation is.
-pub fn push_violation(text: &mut String, schedule: Schedule<'_>, violation: Violation) -> Written {
+pub fn push_violation(text: &mut TextBuilder, schedule: Schedule<'_>, violation: Violation) {
     match violation {
-        Violation::WrongCount => push_count(text, schedule),
+        Violation::WrongCount => push_wrong_count(text, schedule),
         Violation::Overlap(triple) => push_overlap(text, schedule, triple),
         Violation::PastCycle(stream) | Violation::Early(stream) | Violation::TooLate(stream) => {
-            write!(text, "{}", StreamName(schedule.problem, stream))?;
-            if stream >= schedule.timing.streams() {
-                return Ok(());
+            push_stream(text, schedule.problem, "stream ", stream);
+            if stream < schedule.timing.streams() {
+                push_times(text, schedule, stream, violation);
             }
-            push_times(text, schedule, stream, violation)
         }
     }
 }
 
-fn push_count(text: &mut String, schedule: Schedule<'_>) -> Written {
-    let count = schedule.offsets.len();
-    let streams = schedule.timing.streams();
-    write!(
-        text,
-        "the number of offsets is {count}, and has to be {streams}, one for each stream"
-    )
+fn push_wrong_count(text: &mut TextBuilder, schedule: Schedule<'_>) {
+    push_count(text, "the number of offsets is ", schedule.offsets.len());
+    push_count(text, ", and has to be ", schedule.timing.streams());
+    text.push_str(", one for each stream");
 }
 
 /// Past which end of its own a stream of this period is.
@@ -77,19 +73,20 @@ pub fn past_end(period: u64, cycle: u64) -> &'static str {
     }
 }
 
-fn push_overlap(text: &mut String, schedule: Schedule<'_>, triple: Triple) -> Written {
+fn push_overlap(text: &mut TextBuilder, schedule: Schedule<'_>, triple: Triple) {
     let problem = schedule.problem;
-    let left = StreamName(problem, triple.left);
-    let right = StreamName(problem, triple.right);
-    let link = LinkName(problem, triple.link);
-    let later = Later(triple.lag);
+    push_stream(text, problem, "stream ", triple.left);
+    push_stream(text, problem, " and stream ", triple.right);
+    push_later(text, triple.lag);
     match apart(schedule, triple) {
-        Some(gap) => write!(
-            text,
-            "{left} and {right}{later} start {gap} ns apart on {link}, and have to be more than the slack of {} ns apart",
-            schedule.timing.slack()
-        ),
-        None => write!(text, "{left} and {right}{later} overlap on {link}"),
+        Some(gap) => {
+            push_signed(text, " start ", gap);
+            push_link(text, problem, " ns apart on link ", triple.link);
+            let slack = schedule.timing.slack();
+            push_number(text, ", and have to be more than the slack of ", slack);
+            text.push_str(" ns apart");
+        }
+        None => push_link(text, problem, " overlap on link ", triple.link),
     }
 }
 
@@ -123,12 +120,7 @@ fn stay(schedule: Schedule<'_>, stream: usize, link: usize) -> Option<(i128, i12
 }
 
 // Writes which of its times a stream's offset doesn't keep; where one offset alone is within its window, that it has to be that.
-fn push_times(
-    text: &mut String,
-    schedule: Schedule<'_>,
-    stream: usize,
-    violation: Violation,
-) -> Written
+fn push_times(text: &mut TextBuilder, schedule: Schedule<'_>, stream: usize, violation: Violation)
     requires { stream < stream_count schedule.timing.now }
 {
     let timing = schedule.timing;
@@ -136,28 +128,25 @@ fn push_times(
     if let Violation::PastCycle(_) = violation {
         let end = offset.saturating_add(timing.span(stream));
         let period = timing.period(stream);
-        let past = past_end(period, timing.cycle());
-        return write!(
-            text,
-            ": with offset {offset} it ends at {end},{past}{period}"
-        );
+        push_number(text, ": with offset ", offset);
+        push_number(text, " it ends at ", end);
+        text.push_str(",");
+        return push_number(text, past_end(period, timing.cycle()), period);
     }
     let release = timing.release(stream);
     let latest = timing.latest(stream);
     let travel = timing.arrival(stream);
     if release.saturating_add(travel) == latest {
-        return write!(text, ": its offset is {offset}, and has to be {release}");
+        push_number(text, ": its offset is ", offset);
+        push_number(text, ", and has to be ", release);
+    } else if let Violation::Early(_) = violation {
+        push_number(text, ": its offset ", offset);
+        push_number(text, " is before its release ", release);
+    } else {
+        push_number(text, ": with offset ", offset);
+        text.push_str(" it arrives");
+        text.push_str(arrival_words(timing, stream));
+        push_number(text, " at ", offset.saturating_add(travel));
+        push_number(text, ", after its latest instant ", latest);
     }
-    if let Violation::Early(_) = violation {
-        return write!(
-            text,
-            ": its offset {offset} is before its release {release}"
-        );
-    }
-    let arrival = offset.saturating_add(travel);
-    let place = arrival_words(timing, stream);
-    write!(
-        text,
-        ": with offset {offset} it arrives{place} at {arrival}, after its latest instant {latest}"
-    )
 }

@@ -3,25 +3,13 @@ ghost use Rattle.std.specs.Prelude.{◌≡◌, IfOk, IsErr, Ok};
 ghost use Rattle.tsn_cert.specs.Told.{code_of};
 ghost use Rattle.tsn_outcome.specs.Outcome.{IsOutcome, output_of};
 
-use crate::why::Reason;
-use crate::why::file_words::file_line;
 use crate::{Answer, FileKind, Outcome};
 use std::alloc::Global;
 use tsn_cert::{FileFault, Refused};
 use tsn_check::CheckFault;
 use tsn_fault::{Code, NetFault};
 use tsn_model::NoMemory;
-use tsn_text::line_of;
-
-/// The line on a network file of this name that is refused, with what is told of it; nothing where there was no memory for that.
-pub fn network_line(alloc: Global, name: &str, told: Option<String>) -> Reason {
-    let Some(words) = told else {
-        return Err(NoMemory);
-    };
-    let mut text = line_of(alloc, name).finish()?;
-    text.push_str(words.as_str())?;
-    Ok(Some(text))
-}
+use tsn_reason::file_line;
 
 /// What is said of a network file with this fault, for this reason.
 pub fn refusal(alloc: Global, fault: NetFault, reason: Option<String>) -> Result<Answer, NoMemory>
