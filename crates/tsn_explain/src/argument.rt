@@ -2,7 +2,6 @@
 use crate::narrator::Narrator;
 use crate::needs::Part;
 use crate::tree::MOST_TOLD;
-use crate::words::Grouped;
 use crate::writer::Writer;
 use std::alloc::AllocError;
 use tsn_argue::hear_argument;
@@ -51,14 +50,17 @@ impl Writer<'_> {
     fn push_counts(&mut self, argument: &Argument, part: &Part) {
         let count = argument.steps.list().len();
         let told = part.steps.len();
-        let steps = if count == 1 { "step" } else { "steps" };
-        self.say(format_args!("The argument has {} {steps}", Grouped(count as i128)));
+        self.say_count("The argument has ", count);
+        self.say(if count == 1 { " step" } else { " steps" });
         if told < count {
-            let show = if told == 1 { "shows" } else { "show" };
-            self.say(format_args!(", of which {} {show} this", Grouped(told as i128)));
+            self.say_count(", of which ", told);
+            self.say(if told == 1 {
+                " shows this"
+            } else {
+                " show this"
+            });
         }
-        let end = if told <= MOST_TOLD { ":" } else { "." };
-        self.say(format_args!("{end}\n"))
+        self.say(if told <= MOST_TOLD { ":\n" } else { ".\n" })
     }
 
     // Writes the steps of a part. They are checked once more for that: which moves are needed is known only behind the last of them.
@@ -85,11 +87,13 @@ impl Writer<'_> {
             return self.say("nothing else is left.\n");
         }
         let last = count.wrapping_sub(1);
-        let (from, until) = (Grouped(first as i128), Grouped(last as i128));
         if first == last {
-            self.say(format_args!("step {from} shows it.\n"))
+            self.say_count("step ", first);
+            self.say(" shows it.\n")
         } else {
-            self.say(format_args!("steps {from} to {until} show it.\n"))
+            self.say_count("steps ", first);
+            self.say_count(" to ", last);
+            self.say(" show it.\n")
         }
     }
 }

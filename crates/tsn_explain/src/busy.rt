@@ -5,7 +5,6 @@ use crate::marked::{Mention, mentions_of};
 use crate::needs::Part;
 use crate::network::TimedNetwork;
 use crate::tree::MOST_LINKS;
-use crate::words::Grouped;
 use crate::writer::Writer;
 use std::alloc::{AllocError, Global};
 use tsn_cert::{Argument, Goal};
@@ -18,10 +17,11 @@ impl Writer<'_> {
     /// Writes the links that most steps of a part use: how many steps, and the streams that are named most there.
     pub fn push_busy(&mut self, argument: &Argument, part: &Part) -> Result<(), AllocError> {
         let until = greatest_flowspan(self.network, argument);
-        let done = Grouped(until);
-        self.say(format_args!(
-            "The links that most of these are about, if all is to be done by {done}:\n"
-        ));
+        self.say_number(
+            "The links that most of these are about, if all is to be done by ",
+            until,
+        );
+        self.say(":\n");
         let named = mentions_of(self.alloc, argument, part).list.finish()?;
         let mut uses = uses_of(self.alloc, &named, None, self.network.problem.links())?;
         for _ in 0..MOST_LINKS {
@@ -31,8 +31,12 @@ impl Writer<'_> {
             let streams = self.network.timing.streams();
             let on_link = uses_of(self.alloc, &named, Some(link), streams)?;
             let frames = most_used(self.alloc, on_link)?;
-            let steps = if count == 1 { "step" } else { "steps" };
-            self.say(format_args!("{} {steps}: on ", Grouped(count as i128)));
+            self.say_count("", count);
+            self.say(if count == 1 {
+                " step: on "
+            } else {
+                " steps: on "
+            });
             self.push_busy_link(link, &frames, until);
         }
         Ok(())
@@ -47,8 +51,9 @@ impl Writer<'_> {
             load = load.with(self.network, link, *frame, offsets);
         }
         self.push_begin(link, frames, load);
-        let end = Grouped(load.end.min(until.wrapping_sub(load.tail)));
-        self.say(format_args!(", and the last one has to be through by {end}.\n"))
+        let end = load.end.min(until.wrapping_sub(load.tail));
+        self.say_number(", and the last one has to be through by ", end);
+        self.say(".\n")
     }
 }
 

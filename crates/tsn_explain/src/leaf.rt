@@ -1,10 +1,9 @@
 //! The leaves of a tree of decisions, in words.
 use crate::path::Path;
-use crate::words::Grouped;
 use crate::writer::Writer;
 use std::alloc::{AllocError, Global};
 use tsn_cert::{Chain, Entries, Leaf, LowerBound, Node};
-use tsn_model::Frame;
+use tsn_model::{Decision, Frame};
 
 /// The bound that a node shows for the flowspan, if it does.
 pub fn bound_of(node: &Node) -> Option<&LowerBound> {
@@ -32,6 +31,16 @@ pub fn frames_of(alloc: Global, entries: &Entries) -> Result<Vec<Frame>, AllocEr
         frames.push(entry.frame)?;
     }
     Ok(frames)
+}
+
+// Whether these decisions are all among others.
+fn are_among(decisions: &[Decision], others: &[Decision]) -> bool {
+    for decision in decisions {
+        if !others.contains(decision) {
+            return false;
+        }
+    }
+    true
 }
 
 impl Writer<'_> {
@@ -76,10 +85,8 @@ impl Writer<'_> {
                 let frames = self.kept(frames_of(self.alloc, entries));
                 self.say("on ");
                 self.push_begin(*link, &frames, load);
-                let (free, cycle) = (Grouped(load.free()), Grouped(self.network.cycle()));
-                self.say(format_args!(
-                    ": so the link is taken up until {free}, past the cycle's end at {cycle}"
-                ))
+                self.say_number(": so the link is taken up until ", load.free());
+                self.say_number(", past the cycle's end at ", self.network.cycle())
             }
         }
     }
@@ -89,12 +96,12 @@ impl Writer<'_> {
             LowerBound::Late(stream, chain) => {
                 let offset = path.offset(*stream, chain);
                 let arrival = offset.wrapping_add(self.network.times(*stream).arrival);
-                let name = self.network.name(*stream);
-                let place = self.network.arrival_words(*stream);
-                let (offset, arrival) = (Grouped(offset), Grouped(arrival));
-                self.say(format_args!(
-                    "stream {name} can't start before {offset} and arrives{place} at {arrival} or later"
-                ))
+                self.say_stream("stream ", *stream);
+                self.say_number(" can't start before ", offset);
+                self.say(" and arrives");
+                self.say(self.network.arrival_words(*stream));
+                self.say_number(" at ", arrival);
+                self.say(" or later")
             }
             LowerBound::Load(link, entries) => {
                 self.say("on ");
@@ -107,10 +114,7 @@ impl Writer<'_> {
     // Writes that the decisions of a closed chain can't all hold.
     fn push_closed(&mut self, path: &Path<'_>, chain: &Chain) {
         let decisions = self.kept(path.chain(self.alloc, chain));
-        let is_said = path
-            .decisions()
-            .iter()
-            .all(|decision| decisions.contains(decision));
+        let is_said = are_among(path.decisions(), &decisions);
         self.push_round(&decisions, is_said)
     }
 }

@@ -3,7 +3,6 @@ ghost use Rattle.std.specs.Prelude.{None};
 
 use crate::motion::Told;
 use crate::needs::Part;
-use crate::words::{Frames, Grouped, joint};
 use crate::writer::Writer;
 use std::alloc::AllocError;
 use tsn_argue::{News, Observer, Shown, View};
@@ -132,15 +131,14 @@ impl<'a, 'b> Narrator<'a, 'b> {
 
     // Writes how many moves are left out.
     fn push_left_out(&mut self, view: &View<'_>, count: usize) {
-        let words = if count == 1 {
-            "move follows that isn't"
-        } else {
-            "moves follow that aren't"
-        };
-        let count = Grouped(count as i128);
         self.push_limited(view);
-        self.push_then();
-        self.writer.say(format_args!("{count} more {words} told"))
+        let writer = self.then();
+        writer.say_count("", count);
+        writer.say(if count == 1 {
+            " more move follows that isn't told"
+        } else {
+            " more moves follow that aren't told"
+        })
     }
 
     // Writes the opposites of the facts of a step, or which schedules it is about.
@@ -148,31 +146,21 @@ impl<'a, 'b> Narrator<'a, 'b> {
         self.limited.clear();
         self.is_begun = !facts.is_empty();
         self.said = None;
-        self.writer
-            .say(format_args!("Step {}: ", Grouped(self.step as i128)));
+        self.writer.say_count("Step ", self.step);
         if facts.is_empty() {
             return self.push_schedules(ground);
         }
-        self.writer.say("Suppose that ");
-        for (place, fact) in facts.iter().enumerate() {
-            self.writer.say(joint(place, facts.len(), " and "));
-            self.writer.push_fact(News::opposite_of(*fact));
-        }
-        for fact in facts {
-            if self.push_clash(ground, News::opposite_of(*fact)) {
-                break;
-            }
-        }
+        self.writer.push_supposed(ground, facts)
     }
 
     // Writes which schedules are in question.
     fn push_schedules(&mut self, ground: &View<'_>) {
         if self.argument.goal == Goal::None {
-            return self.writer.say("In any schedule, ");
+            return self.writer.say(": In any schedule, ");
         }
-        let done = Grouped(ground.done.high);
         self.writer
-            .say(format_args!("In a schedule that is done by {done}, "))
+            .say_number(": In a schedule that is done by ", ground.done.high);
+        self.writer.say(", ")
     }
 
     // Writes what a step shows.
@@ -181,11 +169,7 @@ impl<'a, 'b> Narrator<'a, 'b> {
         if facts.is_empty() {
             self.push_left(view);
         } else if !self.has_said(facts) {
-            self.writer.say(". So ");
-            for (place, fact) in facts.iter().enumerate() {
-                self.writer.say(joint(place, facts.len(), " or "));
-                self.writer.push_fact(News::of(*fact));
-            }
+            self.writer.push_conclusion(facts);
         }
         self.writer.say(".\n")
     }
@@ -204,33 +188,18 @@ impl<'a, 'b> Narrator<'a, 'b> {
         if view.crossed {
             self.writer.say(". So there is none")
         } else if self.argument.goal == Goal::First && view.done.low >= target {
-            self.writer.say(format_args!(". So nothing is done before {}", Grouped(target)))
+            self.writer
+                .say_number(". So nothing is done before ", target)
         }
     }
 
-    /// What goes before a move.
-    pub fn push_then(&mut self) {
+    /// Writes what goes before a move: the writer, for the move.
+    pub fn then(&mut self) -> &mut Writer<'a> {
         if self.is_begun {
-            return self.writer.say(". Then ");
+            self.writer.say(". Then ");
         }
         self.is_begun = true;
-    }
-
-    /// Writes which number of the view contradicts the fact, if one does.
-    pub fn push_clash(&mut self, view: &View<'_>, news: News) -> bool {
-        if !view.contradicts(news) {
-            return false;
-        }
-        let (words, end) = match news {
-            News::From(stream, _) => ("it can't start after", view.greatest(stream)),
-            News::Until(stream, _) => ("it can't start before", view.least(stream)),
-            News::DoneUntil(until) => ("all has to be done by", until),
-            News::DoneFrom(_) => ("all has to be done by", view.done.high),
-            News::Order(_) => return false,
-        };
         self.writer
-            .say(format_args!(", but {words} {}", Grouped(end)));
-        true
     }
 
     /// Writes by when the frames have to arrive that aren't told yet.
@@ -238,13 +207,56 @@ impl<'a, 'b> Narrator<'a, 'b> {
         if self.limited.list().is_empty() {
             return;
         }
-        self.push_then();
-        let is_one = self.limited.list().len() == 1;
-        let have = if is_one { "has" } else { "have" };
-        let frames = Frames(self.writer.network, self.limited.list());
-        let done = Grouped(view.done.high);
+        self.then();
+        let frames = self.limited.list();
+        self.writer.push_frames(frames);
         self.writer
-            .say(format_args!("{frames} {have} to arrive by {done}"));
+            .say(if frames.len() == 1 { " has" } else { " have" });
+        self.writer.say_number(" to arrive by ", view.done.high);
         self.limited.clear();
+    }
+}
+
+impl Writer<'_> {
+    // Writes the opposites of the facts of a step, and the first number of the ground that contradicts one.
+    fn push_supposed(&mut self, ground: &View<'_>, facts: &[Fact]) {
+        self.say(": Suppose that ");
+        for (place, fact) in facts.iter().enumerate() {
+            self.push_joint(place, facts.len(), " and ");
+            self.push_fact(News::opposite_of(*fact));
+        }
+        for fact in facts {
+            if self.push_clash(ground, News::opposite_of(*fact)) {
+                break;
+            }
+        }
+    }
+
+    // Writes the facts that a step shows.
+    fn push_conclusion(&mut self, facts: &[Fact]) {
+        self.say(". So ");
+        for (place, fact) in facts.iter().enumerate() {
+            self.push_joint(place, facts.len(), " or ");
+            self.push_fact(News::of(*fact));
+        }
+    }
+
+    /// Writes which number of the view contradicts the fact, if one does.
+    pub fn push_clash(&mut self, view: &View<'_>, news: News) -> bool {
+        if !view.contradicts(news) {
+            return false;
+        }
+        match news {
+            News::From(stream, _) => {
+                self.say_number(", but it can't start after ", view.greatest(stream))
+            }
+            News::Until(stream, _) => {
+                self.say_number(", but it can't start before ", view.least(stream))
+            }
+            News::DoneUntil(until) => self.say_number(", but all has to be done by ", until),
+            News::DoneFrom(_) => self.say_number(", but all has to be done by ", view.done.high),
+            News::Order(_) => return false,
+        }
+        true
     }
 }

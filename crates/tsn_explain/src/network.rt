@@ -112,9 +112,10 @@ impl<'a> TimedNetwork<'a> {
     pub fn sends(self, stream: usize, wanted: i128) -> bool {
         let shifts = self.shifts(stream);
         let place = shifts.partition_point(|shift| (*shift as i128) < wanted);
-        shifts
-            .get(place)
-            .is_some_and(|shift| *shift as i128 == wanted)
+        match shifts.get(place) {
+            Some(shift) => *shift as i128 == wanted,
+            None => false,
+        }
     }
 
     /// The first link of a stream's route at whose end the last octet of a period arrives last.
@@ -151,10 +152,13 @@ impl<'a> TimedNetwork<'a> {
 
     /// The first stream that can't be done in time from its least offset on.
     pub fn roomless(self) -> Option<usize> {
-        (0..self.timing.streams()).find(|stream| {
-            let times = self.times(*stream);
-            times.release > times.latest_offset
-        })
+        for stream in 0..self.timing.streams() {
+            let times = self.times(stream);
+            if times.release > times.latest_offset {
+                return Some(stream);
+            }
+        }
+        None
     }
 }
 

@@ -4,7 +4,6 @@ use crate::leaf::{bound_of, frames_of, load_of};
 use crate::load::Load;
 use crate::network::TimedNetwork;
 use crate::path::Path;
-use crate::words::Grouped;
 use crate::writer::Writer;
 use std::alloc::{AllocError, Global};
 use tsn_cert::{Cert, Certificate, Entries, Format, Leaf, LowerBound, Node};
@@ -17,12 +16,12 @@ pub const MOST_LINKS: usize = 5;
 
 // The kinds of leaves, in the order in which they are told.
 const KINDS: [&str; 6] = [
-    "by a frame that arrives too late",
-    "by the load of a link",
-    "by a frame that is past the cycle's end or its latest instant",
-    "by a link that is taken up past the cycle's end",
-    "by orders that can't all hold",
-    "by the list order",
+    " by a frame that arrives too late",
+    " by the load of a link",
+    " by a frame that is past the cycle's end or its latest instant",
+    " by a link that is taken up past the cycle's end",
+    " by orders that can't all hold",
+    " by the list order",
 ];
 
 // Which kind a leaf is of.
@@ -49,10 +48,8 @@ pub fn is_large(certificate: &Certificate) -> bool {
 impl Writer<'_> {
     /// Writes how many nodes a tree has, in whose place an argument is told.
     pub fn push_size(&mut self, cert: &Cert) {
-        let count = Grouped(cert.nodes.list().len() as i128);
-        self.say(format_args!(
-            "The certificate is a tree of {count} nodes. An argument as prove finds it shows the same.\n"
-        ))
+        self.say_count("The certificate is a tree of ", cert.nodes.list().len());
+        self.say(" nodes. An argument as prove finds it shows the same.\n")
     }
 
     /// Writes why the target of a tree is right.
@@ -91,13 +88,13 @@ impl Writer<'_> {
                 leaves = leaves.wrapping_add(1);
             }
         }
-        let leaves = Grouped(leaves as i128);
-        self.say(format_args!("{leaves} ways to order frames are ruled out"));
+        self.say_count("", leaves);
+        self.say(" ways to order frames are ruled out");
         let mut joint = ": ";
         for (kind, count) in counts.iter().enumerate() {
             if *count > 0 {
-                let count = Grouped(*count as i128);
-                self.say(format_args!("{joint}{count} {}", KINDS[kind]));
+                self.say_count(joint, *count);
+                self.say(KINDS[kind]);
                 joint = ", ";
             }
         }
@@ -116,9 +113,10 @@ impl Writer<'_> {
             let Some((link, count)) = take_most(&mut counts) else {
                 break;
             };
-            let (from, to) = self.network.ends(link);
-            let count = Grouped(count as i128);
-            self.say(format_args!("The load of link {link}, {from} to {to}, rules out {count}.\n"));
+            self.say("The load of ");
+            self.push_link(link);
+            self.say_count(", rules out ", count);
+            self.say(".\n");
         }
         Ok(())
     }

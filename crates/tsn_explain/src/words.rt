@@ -1,5 +1,6 @@
 //! How streams, frames, links and facts are called, and how numbers are written.
-use crate::network::{TimedNetwork, sides};
+use crate::network::sides;
+use crate::writer::Writer;
 use std::fmt;
 use tsn_argue::News;
 use tsn_model::{Decision, Frame};
@@ -30,90 +31,101 @@ impl fmt::Display for Grouped {
     }
 }
 
-/// What stands before the element of this place of an enumeration of so many, whose last two a word joins.
-pub fn joint<'a>(place: usize, count: usize, word: &'a str) -> &'a str {
-    if place == 0 {
-        ""
-    } else if place.wrapping_add(1) < count {
-        ", "
-    } else {
-        word
+impl Writer<'_> {
+    /// Writes what stands before the element of this place of an enumeration of so many, whose last two a word joins.
+    pub fn push_joint(&mut self, place: usize, count: usize, word: &str) {
+        if place == 0 {
+            return;
+        }
+        self.say(if place.wrapping_add(1) < count {
+            ", "
+        } else {
+            word
+        })
     }
-}
 
-/// 'the frame of' or 'the frames of' streams, and their names; and by how much a frame is later than the stream's first one.
-#[derive(Clone, Copy)]
-pub struct Frames<'a, 'b>(pub TimedNetwork<'a>, pub &'b [Frame]);
+    /// Writes the number of a link, and the nodes that it joins.
+    pub fn push_link(&mut self, link: usize) {
+        self.say_digits("link ", link);
+        self.push_ends(", ", link)
+    }
 
-impl fmt::Display for Frames<'_, '_> {
-    fn fmt<W: fmt::Write>(&self, f: &mut fmt::Formatter<W>) -> fmt::Result {
-        let Frames(network, frames) = *self;
+    // Writes the names of the nodes that a link joins behind words.
+    fn push_ends(&mut self, words: &str, link: usize) {
+        let (from, to) = self.network.ends(link);
+        self.say(words);
+        self.say(from);
+        self.say(" to ");
+        self.say(to)
+    }
+
+    /// Writes 'the frame of' or 'the frames of' streams, and their names; and by how much a frame is later than the stream's first
+    /// one.
+    pub fn push_frames(&mut self, frames: &[Frame]) {
         let count = frames.len();
-        let ending = if count == 1 { "" } else { "s" };
-        write!(f, "the frame{ending} of ")?;
+        self.say(if count == 1 {
+            "the frame of "
+        } else {
+            "the frames of "
+        });
         for (place, frame) in frames.iter().enumerate() {
             if place == MOST_NAMED {
-                return write!(f, " and {} more", count.wrapping_sub(place));
+                self.say_digits(" and ", count.wrapping_sub(place));
+                return self.say(" more");
             }
-            let name = network.name(frame.stream);
-            let before = joint(place, count, " and ");
-            write!(f, "{before}{name}{}", Later(frame.shift))?;
+            self.push_joint(place, count, " and ");
+            self.push_name(*frame);
         }
-        Ok(())
     }
-}
 
-// By how much a frame is later than its stream's first one, where it is.
-#[derive(Clone, Copy)]
-struct Later(u64);
+    /// Writes 'the frame of' a stream, and its name.
+    pub fn push_frame(&mut self, frame: Frame) {
+        self.say("the frame of ");
+        self.push_name(frame)
+    }
 
-impl fmt::Display for Later {
-    fn fmt<W: fmt::Write>(&self, f: &mut fmt::Formatter<W>) -> fmt::Result {
-        if self.0 == 0 {
-            return Ok(());
+    // Writes the name of a frame's stream, and by how much the frame is later than its first one, where it is.
+    fn push_name(&mut self, frame: Frame) {
+        self.say_stream("", frame.stream);
+        if frame.shift > 0 {
+            self.say_number(" (", frame.shift as i128);
+            self.say(" ns later)");
         }
-        write!(f, " ({} ns later)", Grouped(self.0 as i128))
     }
-}
 
-/// What a fact says.
-#[derive(Clone, Copy)]
-pub struct Fact<'a>(pub TimedNetwork<'a>, pub News);
-
-impl fmt::Display for Fact<'_> {
-    fn fmt<W: fmt::Write>(&self, f: &mut fmt::Formatter<W>) -> fmt::Result {
-        let Fact(network, news) = *self;
+    /// Writes what a fact says.
+    pub fn push_fact(&mut self, news: News) {
         match news {
-            News::DoneFrom(from) => write!(f, "nothing is done before {}", Grouped(from)),
-            News::DoneUntil(until) => write!(f, "all is done by {}", Grouped(until)),
-            News::From(stream, from) => {
-                let name = network.name(stream);
-                write!(f, "stream {name} starts at {} or later", Grouped(from))
-            }
-            News::Until(stream, until) => {
-                let name = network.name(stream);
-                write!(f, "stream {name} starts at {} or earlier", Grouped(until))
-            }
-            News::Order(decision) => write_order(f, network, decision),
+            News::DoneFrom(from) => self.say_number("nothing is done before ", from),
+            News::DoneUntil(until) => self.say_number("all is done by ", until),
+            News::From(stream, from) => self.push_start(stream, from, " or later"),
+            News::Until(stream, until) => self.push_start(stream, until, " or earlier"),
+            News::Order(decision) => self.push_order(decision),
         }
     }
-}
 
-// Writes that one stream goes before another one on a link, and which of their frames.
-fn write_order<W: fmt::Write>(
-    f: &mut fmt::Formatter<W>,
-    network: TimedNetwork<'_>,
-    decision: Decision,
-) -> fmt::Result {
-    let (first, second, later) = sides(decision);
-    let (first, second) = (network.name(first), network.name(second));
-    write!(f, "stream {first} goes before stream {second}")?;
-    if later != 0 {
-        let direction = if later > 0 { "later" } else { "sooner" };
-        let later = Grouped(later.max(later.wrapping_neg()));
-        write!(f, "'s frame {later} ns {direction}")?;
+    // Writes when a stream starts, with an ending.
+    fn push_start(&mut self, stream: usize, start: i128, ending: &str) {
+        self.say_stream("stream ", stream);
+        self.say_number(" starts at ", start);
+        self.say(ending)
     }
-    let link = decision.triple.link;
-    let (from, to) = network.ends(link);
-    write!(f, " on link {link} ({from} to {to})")
+
+    // Writes that one stream goes before another one on a link, and which of their frames.
+    fn push_order(&mut self, decision: Decision) {
+        let (first, second, later) = sides(decision);
+        self.say_stream("stream ", first);
+        self.say_stream(" goes before stream ", second);
+        if later > 0 {
+            self.say_number("'s frame ", later);
+            self.say(" ns later");
+        } else if later < 0 {
+            self.say_number("'s frame ", later.wrapping_neg());
+            self.say(" ns sooner");
+        }
+        let link = decision.triple.link;
+        self.say_digits(" on link ", link);
+        self.push_ends(" (", link);
+        self.say(")")
+    }
 }

@@ -1,9 +1,9 @@
 //! A text about a network.
 use crate::load::Load;
 use crate::network::{TimedNetwork, sides};
-use crate::words::{Fact, Frames, Grouped, joint};
+use crate::words::Grouped;
 use std::alloc::{AllocError, Global};
-use std::fmt::{Display, Write};
+use std::fmt::Write;
 use tsn_argue::News;
 use tsn_cert::Plan;
 use tsn_model::{Decision, Frame};
@@ -37,10 +37,37 @@ impl<'a> Writer<'a> {
     }
 
     /// Writes this.
-    pub fn say<D: Display + Drop>(&mut self, words: D) {
+    pub fn say(&mut self, words: &str) {
         if !self.is_refused {
-            self.is_refused = write!(self.text, "{words}").is_err();
+            self.is_refused = self.text.push_str(words).is_err();
         }
+    }
+
+    /// Writes a number behind words, as a time in nanoseconds, with commas between the thousands.
+    pub fn say_number(&mut self, words: &str, number: i128) {
+        self.say(words);
+        if !self.is_refused {
+            self.is_refused = write!(self.text, "{}", Grouped(number)).is_err();
+        }
+    }
+
+    /// Writes a count behind words, with commas between the thousands.
+    pub fn say_count(&mut self, words: &str, count: usize) {
+        self.say_number(words, count as i128)
+    }
+
+    /// Writes a count's digits alone behind words, as the number of a link.
+    pub fn say_digits(&mut self, words: &str, number: usize) {
+        self.say(words);
+        if !self.is_refused {
+            self.is_refused = write!(self.text, "{number}").is_err();
+        }
+    }
+
+    /// Writes the name of a stream behind words.
+    pub fn say_stream(&mut self, words: &str, stream: usize) {
+        self.say(words);
+        self.say(self.network.name(stream))
     }
 
     /// The list that the text needs, or none of it where there was no memory.
@@ -56,26 +83,27 @@ impl<'a> Writer<'a> {
     pub fn push_claim(&mut self, plan: &Plan) {
         match plan {
             Plan::Schedule { flowspan, .. } => {
-                let flowspan = Grouped(*flowspan as i128);
-                self.say(format_args!("No schedule is done before {flowspan} ns.\n"))
+                self.say_number("No schedule is done before ", *flowspan as i128);
             }
             Plan::None => {
-                let cycle = Grouped(self.network.cycle());
-                self.say(format_args!("There is no schedule within the cycle of {cycle} ns.\n"))
+                let cycle = self.network.cycle();
+                self.say_number("There is no schedule within the cycle of ", cycle);
             }
         }
+        self.say(" ns.\n")
     }
 
     /// Writes the link, how long the frames take, and from when on.
     pub fn push_begin(&mut self, link: usize, frames: &[Frame], load: Load) {
-        let (from, to) = self.network.ends(link);
-        let names = Frames(self.network, frames);
-        let (work, head) = (Grouped(load.work), Grouped(load.head));
-        self.say(format_args!("link {link}, {from} to {to}, {names} "));
+        self.push_link(link);
+        self.say(", ");
+        self.push_frames(frames);
         if frames.len() == 1 {
-            self.say(format_args!("takes {work} ns; it can't start before {head}"))
+            self.say_number(" takes ", load.work);
+            self.say_number(" ns; it can't start before ", load.head)
         } else {
-            self.say(format_args!("take {work} ns together; the first can't start before {head}"))
+            self.say_number(" take ", load.work);
+            self.say_number(" ns together; the first can't start before ", load.head)
         }
     }
 
@@ -84,34 +112,40 @@ impl<'a> Writer<'a> {
         self.push_begin(link, frames, load);
         let is_one = frames.len() == 1;
         let it = if is_one { "it" } else { "the last one" };
-        let tail = Grouped(load.tail.max(load.tail.wrapping_neg()));
         if load.tail > 0 {
-            self.say(format_args!(", and after {it} {tail} ns pass"));
+            self.say(", and after ");
+            self.say(it);
+            self.say_number(" ", load.tail);
+            self.say(" ns pass");
         } else if load.tail < 0 {
-            self.say(format_args!(
-                ", and {it} has arrived {tail} ns before the gap behind it ends"
-            ));
+            self.say(", and ");
+            self.say(it);
+            self.say_number(" has arrived ", load.tail.wrapping_neg());
+            self.say(" ns before the gap behind it ends");
         }
-        self.say(format_args!(": so nothing is done before {}", Grouped(load.bound())))
+        self.say_number(": so nothing is done before ", load.bound())
     }
 
     /// Writes that a stream that can't start before an offset isn't done in time.
     pub fn push_no_room(&mut self, stream: usize, offset: i128) {
         let times = self.network.times(stream);
-        let name = self.network.name(stream);
-        let start = Grouped(offset);
-        self.say(format_args!("stream {name} can't start before {start}, and would "));
+        self.say_stream("stream ", stream);
+        self.say_number(" can't start before ", offset);
         let ends = offset.wrapping_add(times.span);
         if ends <= times.period {
-            let arrival = Grouped(offset.wrapping_add(times.arrival));
-            let latest = Grouped(times.latest);
-            let place = self.network.arrival_words(stream);
-            self.say(format_args!("arrive{place} at {arrival}, past its latest instant {latest}"))
+            self.say(", and would arrive");
+            self.say(self.network.arrival_words(stream));
+            self.say_number(" at ", offset.wrapping_add(times.arrival));
+            self.say_number(", past its latest instant ", times.latest)
         } else {
+            self.say_number(", and would end at ", ends);
             let is_cycle = times.period == self.network.cycle();
-            let whose = if is_cycle { "the cycle" } else { "its period" };
-            let (ends, period) = (Grouped(ends), Grouped(times.period));
-            self.say(format_args!("end at {ends}, past {whose}'s end at {period}"))
+            self.say(if is_cycle {
+                ", past the cycle"
+            } else {
+                ", past its period"
+            });
+            self.say_number("'s end at ", times.period)
         }
     }
 
@@ -129,22 +163,16 @@ impl<'a> Writer<'a> {
             weight = weight.wrapping_add(self.network.weight(*decision));
         }
         let (stream, _, _) = sides(*first);
-        let (name, weight) = (self.network.name(stream), Grouped(weight));
-        self.say(format_args!(
-            "by these orders stream {name} would start {weight} ns later than it does, so they can't all hold"
-        ))
+        self.say_stream("by these orders stream ", stream);
+        self.say_number(" would start ", weight);
+        self.say(" ns later than it does, so they can't all hold")
     }
 
     /// Writes decisions.
     pub fn push_orders(&mut self, decisions: &[Decision]) {
         for (place, decision) in decisions.iter().enumerate() {
-            self.say(joint(place, decisions.len(), " and "));
+            self.push_joint(place, decisions.len(), " and ");
             self.push_fact(News::Order(*decision));
         }
-    }
-
-    /// Writes what a fact says.
-    pub fn push_fact(&mut self, news: News) {
-        self.say(Fact(self.network, news))
     }
 }
