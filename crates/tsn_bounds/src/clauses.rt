@@ -118,8 +118,8 @@ impl Clauses {
         let number = index(self.list.len());
         let start = self.literals.len();
         self.literals.extend_from_slice(literals)?;
-        for literal in literals.iter().take(2) {
-            self.watch(*literal, number)?;
+        for place in 0..literals.len().min(2) {
+            self.watch(literal_at(literals, place), number)?;
         }
         let clause = Clause {
             start,

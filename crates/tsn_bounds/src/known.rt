@@ -1,13 +1,14 @@
 //! What a search knows: the network's numbers, the bounds with the changes that led to them, the clauses, and what was shown; and why a
 //! literal holds. Bounds stand in this order: the least and the greatest offset of each stream, the least and the greatest flowspan, and
 //! the least and the greatest gap of each pair. Times are in nanoseconds.
+use crate::calls::Calls;
 use crate::clauses::{Clauses, part_of};
-use crate::literal::Literal;
-use crate::number::{NONE, at, index, less, push, sum};
+use crate::literal::{Literal, literal_at};
+use crate::number::{NONE, at, index, less, mark, push, sum};
 use crate::reason::{Deed, Part, Placing, Why};
 use crate::record::{Record, place_at, places_of};
 use crate::side::{end_literal, head_literal, lead};
-use crate::table::{Block, Pair, Rival, Table, place_of};
+use crate::table::{Block, Pair, Rival, Table, place_of, signed_place};
 use crate::trail::Trail;
 use std::alloc::{AllocError, Global};
 
@@ -16,6 +17,8 @@ use std::alloc::{AllocError, Global};
 pub struct Known {
     pub table: Table,
     pub trail: Trail,
+    /// The links that are to be looked at.
+    pub calls: Calls,
     pub clauses: Clauses,
     pub record: Record,
     /// Literals that hold and can't all hold, and the deed that shows it.
@@ -43,6 +46,7 @@ impl Known {
         Known {
             table,
             trail: Trail::none(alloc),
+            calls: Calls::none(alloc),
             clauses: Clauses::none(alloc),
             record: Record::none(alloc),
             clash: Vec::new(alloc),
@@ -60,7 +64,59 @@ impl Known {
         self.table.put_values(&mut self.trail.values)?;
         self.table.put_values(&mut self.trail.ground)?;
         self.trail.size()?;
+        self.calls.size(self.table.links.len())?;
         self.clauses.size(alloc, self.trail.values.len())
+    }
+
+    /// Notes of each bound of a time that it changed, and of each link that it's to be looked at. The error says that there was no memory.
+    pub fn begin(&mut self) -> Result<(), AllocError> {
+        for bound in 0..self.times {
+            let literal = Literal::of(bound, self.trail.value(bound));
+            self.trail.change(literal, Why::Decided, 0)?;
+        }
+        for link in 0..self.table.links.len() {
+            self.calls.call(link)?;
+        }
+        Ok(())
+    }
+
+    /// Narrows a bound. False where that contradicts what is known; then the clash is noted.
+    pub fn raise(&mut self, literal: Literal, why: Why) -> Result<bool, AllocError> {
+        if self.trail.is_true(literal) {
+            return Ok(true);
+        }
+        if self.trail.is_false(literal) {
+            self.note_clash(literal, why)?;
+            return Ok(false);
+        }
+        self.trail.change(literal, why, self.record.count())?;
+        if literal.bound < self.times {
+            for link in self.table.links_of(literal.bound) {
+                self.calls.call(*link as usize)?;
+            }
+        }
+        Ok(true)
+    }
+
+    /// Begins a level with a literal. The error says that there was no memory.
+    pub fn decide(&mut self, literal: Literal) -> Result<(), AllocError> {
+        self.trail.open()?;
+        let _ = self.raise(literal, Why::Decided)?;
+        Ok(())
+    }
+
+    /// Adds a clause that was learned, by its number in the record, with how many levels its literals were of and when: its first literal
+    /// follows. The error says that there was no memory.
+    pub fn add_lesson(
+        &mut self,
+        learned: &[Literal],
+        shown: u32,
+        levels: u32,
+        now: u64,
+    ) -> Result<(), AllocError> {
+        let clause = self.clauses.add(learned, shown, levels, now, true)?;
+        let _ = self.raise(literal_at(learned, 0), Why::Clause(clause))?;
+        Ok(())
     }
 
     /// The bound of the least offset of a stream.
@@ -76,6 +132,14 @@ impl Known {
     /// The least offset of a stream, or the least flowspan behind all streams.
     pub fn low(&self, stream: usize) -> i64 {
         self.trail.value(self.least(stream))
+    }
+
+    /// Puts the least offsets of all streams behind others. The error says that there was no memory.
+    pub fn put_least(&self, offsets: &mut Vec<i64>) -> Result<(), AllocError> {
+        for stream in 0..self.table.streams() {
+            push(offsets, self.low(stream))?;
+        }
+        Ok(())
     }
 
     /// The number of the bound of a pair's least gap: these come behind the bounds of times.
@@ -164,6 +228,50 @@ impl Known {
             | (sum(own, other) < 0) & (sum(most, at(&self.trail.values, to ^ 1)) > 0)
     }
 
+    /// Where a bound of a gap passes no block.
+    pub fn first_of(&self, bound: u32) -> i64 {
+        if bound & 1 == 0 {
+            return 0;
+        }
+        signed_place(self.pair_of(bound).count).wrapping_neg()
+    }
+
+    /// The least and the greatest gap of a pair that is left.
+    pub fn gaps_left(&self, pair: usize) -> (i64, i64) {
+        let bound = self.gap(pair);
+        (
+            self.trail.value(bound),
+            self.trail.value(bound ^ 1).wrapping_neg(),
+        )
+    }
+
+    /// Whether the least offsets violate a block of a pair that isn't decided.
+    pub fn is_violated(&self, number: usize, pair: Pair) -> bool {
+        let (least, greatest) = self.gaps_left(number);
+        if least >= greatest {
+            return false;
+        }
+        let apart = less(self.low(pair.right), self.low(pair.left));
+        let first = self.table.first_unpassed(pair, least, greatest, apart);
+        first < greatest
+            && apart
+                > self
+                    .table
+                    .block_of(pair.start, first)
+                    .right_first
+                    .wrapping_neg()
+    }
+
+    /// Whether the least offsets violate a block that isn't decided.
+    pub fn is_any_violated(&self) -> bool {
+        for number in 0..self.table.pairs.len() {
+            if self.is_violated(number, self.table.pair(number)) {
+                return true;
+            }
+        }
+        false
+    }
+
     /// Whether some variable has no value left.
     pub fn is_empty(&self) -> bool {
         is_impossible(&self.trail.values, self.times as usize)
@@ -179,6 +287,27 @@ impl Known {
         self.explain(needed, why)?;
         std::mem::swap(&mut self.needs, &mut self.clash);
         push(&mut self.clash, known)
+    }
+
+    /// The last level of the clash's literals.
+    pub fn clash_level(&self) -> usize {
+        let mut level: u32 = 0;
+        for literal in &self.clash {
+            level = level.max(self.trail.level_of(*literal));
+        }
+        level as usize
+    }
+
+    /// Forgets learned clauses, but none by which a bound was narrowed. The error says that there was no memory.
+    pub fn forget_clauses(&mut self, alloc: Global) -> Result<(), AllocError> {
+        let mut is_needed = Vec::new(alloc);
+        is_needed.resize(self.clauses.list.len(), false)?;
+        for event in &self.trail.events {
+            if let Why::Clause(clause) = event.why {
+                mark(&mut is_needed, clause as usize, true);
+            }
+        }
+        self.clauses.forget(alloc, &is_needed)
     }
 
     /// The deed by which a literal came to hold. None where it was given.

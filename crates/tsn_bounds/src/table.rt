@@ -1,5 +1,5 @@
 //! The numbers of a network that the search asks for. Times are in nanoseconds.
-use crate::number::{at, index, index_at, item_at, push, sum};
+use crate::number::{at, index, index_at, item_at, less, push, sum};
 use std::alloc::{AllocError, Global};
 
 /// A stream.
@@ -245,6 +245,22 @@ impl Table {
         self.bodies.len()
     }
 
+    /// The shared links of the stream whose offset this is a bound of.
+    pub fn links_of(&self, bound: u32) -> &[u32] {
+        match self.stays.get((bound / 2) as usize) {
+            Some(stays) => stays.links.as_slice(),
+            None => &[],
+        }
+    }
+
+    /// The rivals of the stream whose offset this is a bound of.
+    pub fn rivals_of(&self, bound: u32) -> &[Rival] {
+        match self.rivals.get((bound / 2) as usize) {
+            Some(rivals) => rivals.list.as_slice(),
+            None => &[],
+        }
+    }
+
     /// The conflict of this number.
     pub fn conflict(&self, number: usize) -> Conflict {
         item_at(&self.conflicts, number, NO_CONFLICT)
@@ -289,8 +305,8 @@ impl Table {
     /// When the last stream has arrived, by the offsets.
     pub fn flowspan(&self, offsets: &[i64]) -> i64 {
         let mut last = 0i64;
-        for (body, offset) in self.bodies.iter().zip(offsets) {
-            last = last.max(sum(*offset, body.arrival));
+        for stream in 0..self.streams().min(offsets.len()) {
+            last = last.max(sum(at(offsets, stream), self.arrival(stream)));
         }
         last
     }
@@ -312,6 +328,13 @@ impl Table {
             }
         }
         low
+    }
+
+    /// The gap of a pair by offsets.
+    pub fn gap_by(&self, number: usize, offsets: &[i64]) -> i64 {
+        let pair = self.pair(number);
+        let apart = less(at(offsets, pair.right), at(offsets, pair.left));
+        self.first_unpassed(pair, 0, signed_place(pair.count), apart)
     }
 
     /// The block of this number among those of a pair whose blocks start at a place.

@@ -1,6 +1,6 @@
 //! The bounds of the variables, and the changes that led to them, one after another.
 use crate::literal::Literal;
-use crate::number::{NONE, at, index, index_at, item_at, push, put, put_index};
+use crate::number::{NONE, at, index, index_at, item_at, next, push, put, put_index};
 use crate::reason::{Filling, Part, Placing, Why};
 use std::alloc::{AllocError, Global};
 
@@ -182,6 +182,13 @@ impl Trail {
             needs: self.needs.len(),
         };
         push(&mut self.marks, mark)
+    }
+
+    /// The bound of the first change that wasn't looked at, which is by this.
+    pub fn next_change(&mut self) -> Option<u32> {
+        let bound = self.events.get(self.looked)?.bound;
+        self.looked = next(self.looked);
+        Some(bound)
     }
 
     /// Notes that it's looked at what follows from a bound. False where that was done when it stood where it stands.

@@ -1,12 +1,14 @@
 //! What a contradiction teaches: the clause of the first unique implication point, over bounds (Marques-Silva and Sakallah 1996;
 //! Ohrimenko, Stuckey and Codish 2007), without what the others imply.
-use crate::search::Search;
+use crate::choice::Choice;
 use std::alloc::{AllocError, Global};
+use tsn_bounds::known::Known;
 use tsn_bounds::literal::{Literal, exchange, literal_at};
 use tsn_bounds::number::{
     NONE, at, index, index_at, is_marked, item_at, mark, push, put, put_index,
 };
 use tsn_bounds::reason::{Deed, Why};
+use tsn_bounds::trail::Trail;
 
 // How deep it's looked whether a literal is implied, and how many changes are looked at for that.
 const DEPTH: u32 = 3;
@@ -16,24 +18,35 @@ const LOOKS: u32 = 30;
 /// What is needed of a contradiction.
 #[derive(Drop)]
 pub struct Analysis {
-    // For each bound how narrow it is needed, and the change by which it is so; none where it isn't needed.
-    wanted: Vec<i64>,
+    wanted: Wanted,
+    argument: Argument,
+    /// The clause, the literal that follows first, and then one of the level to which the search goes back.
+    pub learned: Vec<Literal>,
+    levels: Vec<u32>,
+    // Literals that are to be implied, and how many changes may still be looked at for that.
+    stack: Vec<Literal>,
+    left: u32,
+}
+
+// For each bound how narrow it is needed, and the change by which it is so; none where it isn't needed.
+#[derive(Drop)]
+struct Wanted {
+    values: Vec<i64>,
     changes: Vec<u32>,
     touched: Vec<u32>,
     is_touched: Vec<bool>,
     // How many changes of the last level are needed.
     open: usize,
+}
+
+// What the clause follows by.
+#[derive(Drop)]
+struct Argument {
     // The changes that were replaced by why they came.
     used: Vec<Used>,
     // The changes before the first decision that are needed.
     grounds: Vec<u32>,
-    /// The clause, the literal that follows first, and then one of the level to which the search goes back.
-    pub learned: Vec<Literal>,
     deeds: Vec<Deed>,
-    levels: Vec<u32>,
-    // Literals that are to be implied, and how many changes may still be looked at for that.
-    stack: Vec<Literal>,
-    left: u32,
 }
 
 // A change, and how narrow its bound is needed by it.
@@ -56,28 +69,19 @@ pub struct Lesson {
     pub levels: u32,
 }
 
-impl Analysis {
-    /// Over no bounds.
-    pub fn none(alloc: Global) -> Analysis {
-        Analysis {
-            wanted: Vec::new(alloc),
+impl Wanted {
+    fn none(alloc: Global) -> Wanted {
+        Wanted {
+            values: Vec::new(alloc),
             changes: Vec::new(alloc),
             touched: Vec::new(alloc),
             is_touched: Vec::new(alloc),
             open: 0,
-            used: Vec::new(alloc),
-            grounds: Vec::new(alloc),
-            learned: Vec::new(alloc),
-            deeds: Vec::new(alloc),
-            levels: Vec::new(alloc),
-            stack: Vec::new(alloc),
-            left: 0,
         }
     }
 
-    /// Makes it one over so many bounds. The error says that there was no memory.
-    pub fn size(&mut self, bounds: usize) -> Result<(), AllocError> {
-        self.wanted.resize(bounds, 0)?;
+    fn size(&mut self, bounds: usize) -> Result<(), AllocError> {
+        self.values.resize(bounds, 0)?;
         self.changes.resize(bounds, NONE)?;
         self.is_touched.resize(bounds, false)
     }
@@ -87,8 +91,28 @@ impl Analysis {
     }
 
     // What is needed of a bound.
-    fn wanted(&self, bound: u32) -> Literal {
-        Literal::of(bound, at(&self.wanted, bound as usize))
+    fn literal(&self, bound: u32) -> Literal {
+        Literal::of(bound, at(&self.values, bound as usize))
+    }
+
+    // Needs a literal, by the change of this number. Whether it wasn't needed so before.
+    fn need(&mut self, literal: Literal, number: u32, trail: &Trail) -> Result<bool, AllocError> {
+        let old = self.change(literal.bound);
+        if old != NONE {
+            if self.literal(literal.bound).least >= literal.least {
+                return Ok(false);
+            }
+            if is_of_last_level(old, trail) {
+                self.open = self.open.wrapping_sub(1);
+            }
+        }
+        self.touch(literal.bound)?;
+        put(&mut self.values, literal.place(), literal.least);
+        put_index(&mut self.changes, literal.place(), number);
+        if is_of_last_level(number, trail) {
+            self.open = self.open.wrapping_add(1);
+        }
+        Ok(true)
     }
 
     fn touch(&mut self, bound: u32) -> Result<(), AllocError> {
@@ -99,12 +123,12 @@ impl Analysis {
         push(&mut self.touched, bound)
     }
 
-    fn note_used(&mut self, number: u32, literal: Literal) -> Result<(), AllocError> {
-        let least = literal.least;
-        push(&mut self.used, Used { number, least })
+    // A bound, whose change is of the last level, isn't needed any longer.
+    fn leave(&mut self, bound: u32) {
+        put_index(&mut self.changes, bound as usize, NONE);
+        self.open = self.open.wrapping_sub(1);
     }
 
-    // Nothing is needed any longer.
     fn clear(&mut self) {
         for bound in &self.touched {
             mark(&mut self.is_touched, *bound as usize, false);
@@ -112,41 +136,114 @@ impl Analysis {
         }
         self.touched.clear();
         self.open = 0;
-        self.used.clear();
-        self.grounds.clear();
-        self.learned.clear();
-        self.deeds.clear();
-        self.levels.clear();
-        self.stack.clear();
     }
 }
 
-impl Search {
-    /// The last level of the clash's literals.
-    pub fn clash_level(&self) -> usize {
-        let mut level: u32 = 0;
-        for literal in &self.known.clash {
-            level = level.max(self.known.trail.level_of(*literal));
+impl Argument {
+    fn none(alloc: Global) -> Argument {
+        Argument {
+            used: Vec::new(alloc),
+            grounds: Vec::new(alloc),
+            deeds: Vec::new(alloc),
         }
-        level as usize
     }
 
-    /// Learns a clause from the clash, whose last level is the search's.
-    pub fn analyze(&mut self) -> Result<Lesson, AllocError> {
-        self.analysis.clear();
-        for number in 0..self.known.clash.len() {
-            self.need_of(number, false)?;
+    fn note_used(&mut self, number: u32, literal: Literal) -> Result<(), AllocError> {
+        let least = literal.least;
+        push(&mut self.used, Used { number, least })
+    }
+
+    // Whether a literal held before the first decision; then its change is noted.
+    fn is_ground(&mut self, number: u32, trail: &Trail) -> Result<bool, AllocError> {
+        if trail.event(number).level != 0 {
+            return Ok(false);
         }
-        let point = self.resolve()?;
-        push(&mut self.analysis.learned, point.opposite())?;
-        for number in 0..self.analysis.touched.len() {
-            let bound = index_at(&self.analysis.touched, number);
-            self.keep_or_drop(bound, point)?;
+        push(&mut self.grounds, number)?;
+        Ok(true)
+    }
+
+    // Records the clause with its deeds, in the order of the changes.
+    fn record(&mut self, learned: &[Literal], known: &mut Known) -> Result<u32, AllocError> {
+        self.used.sort_unstable_by_key(|used| used.number);
+        let mut last = NOT_USED;
+        for place in 0..self.used.len() {
+            let used = item_at(&self.used, place, NOT_USED);
+            if used.number != last.number || used.least != last.least {
+                self.note_deed(used, known)?;
+            }
+            last = used;
         }
-        let level = self.put_second();
-        let levels = self.count_levels();
-        let shown = self.note_lesson()?;
-        self.choice.forget_some();
+        if let Some(deed) = known.clash_deed {
+            push(&mut self.deeds, deed)?;
+        }
+        known.record.add(learned, &self.deeds, &self.grounds)
+    }
+
+    fn note_deed(&mut self, used: Used, known: &mut Known) -> Result<(), AllocError> {
+        let event = known.trail.event(used.number);
+        let literal = Literal::of(event.bound, used.least);
+        match known.kept_deed(literal, event.why)? {
+            Some(deed) => push(&mut self.deeds, deed),
+            None => Ok(()),
+        }
+    }
+
+    fn clear(&mut self) {
+        self.used.clear();
+        self.grounds.clear();
+        self.deeds.clear();
+    }
+}
+
+impl Analysis {
+    /// Over no bounds.
+    pub fn none(alloc: Global) -> Analysis {
+        Analysis {
+            wanted: Wanted::none(alloc),
+            argument: Argument::none(alloc),
+            learned: Vec::new(alloc),
+            levels: Vec::new(alloc),
+            stack: Vec::new(alloc),
+            left: 0,
+        }
+    }
+
+    /// Makes it one over so many bounds. The error says that there was no memory.
+    pub fn size(&mut self, bounds: usize) -> Result<(), AllocError> {
+        self.wanted.size(bounds)
+    }
+
+    // Nothing is needed any longer.
+    fn clear(&mut self) {
+        self.wanted.clear();
+        self.argument.clear();
+        self.learned.clear();
+        self.levels.clear();
+        self.stack.clear();
+    }
+
+    /// Learns a clause from the clash, whose last level is the search's, after so many conflicts.
+    pub fn analyze(
+        &mut self,
+        known: &mut Known,
+        choice: &mut Choice,
+        conflicts: u64,
+    ) -> Result<Lesson, AllocError> {
+        self.clear();
+        for number in 0..known.clash.len() {
+            let literal = literal_at(&known.clash, number);
+            self.need(literal, known, choice)?;
+        }
+        let point = self.resolve(known, choice, conflicts)?;
+        push(&mut self.learned, point.opposite())?;
+        for number in 0..self.wanted.touched.len() {
+            let bound = index_at(&self.wanted.touched, number);
+            self.keep_or_drop(bound, point, known)?;
+        }
+        let level = put_second(&mut self.learned, &known.trail);
+        let levels = count_levels(&self.learned, &mut self.levels, &known.trail);
+        let shown = self.argument.record(&self.learned, known)?;
+        choice.forget_some();
         Ok(Lesson {
             level,
             shown,
@@ -155,218 +252,188 @@ impl Search {
     }
 
     /// Notes that what is given contradicts itself, by the clash, whose literals hold before the first decision.
-    pub fn end(&mut self) -> Result<(), AllocError> {
-        self.known.is_open = false;
-        self.analysis.clear();
-        for literal in &self.known.clash {
-            if let Some(number) = self.known.trail.event_of(*literal) {
-                push(&mut self.analysis.grounds, number)?;
+    pub fn end(&mut self, known: &mut Known) -> Result<(), AllocError> {
+        known.is_open = false;
+        self.clear();
+        for literal in &known.clash {
+            if let Some(number) = known.trail.event_of(*literal) {
+                push(&mut self.argument.grounds, number)?;
             }
         }
-        let _ = self.note_lesson()?;
+        let _ = self.argument.record(&self.learned, known)?;
         Ok(())
     }
 
     // Needs a literal of the clash, or of those by which another one holds.
-    fn need_of(&mut self, number: usize, is_reason: bool) -> Result<(), AllocError> {
-        let literal = if is_reason {
-            literal_at(&self.known.needs, number)
-        } else {
-            literal_at(&self.known.clash, number)
-        };
-        let Some(number) = self.known.trail.event_of(literal) else {
+    fn need(
+        &mut self,
+        literal: Literal,
+        known: &Known,
+        choice: &mut Choice,
+    ) -> Result<(), AllocError> {
+        let Some(number) = known.trail.event_of(literal) else {
             return Ok(());
         };
-        let level = self.known.trail.event(number).level;
-        if level == 0 {
-            return push(&mut self.analysis.grounds, number);
+        if self.argument.is_ground(number, &known.trail)? {
+            return Ok(());
         }
-        let old = self.analysis.change(literal.bound);
-        if old != NONE {
-            if self.analysis.wanted(literal.bound).least >= literal.least {
-                return Ok(());
-            }
-            self.count_change(old, false);
-        }
-        self.analysis.touch(literal.bound)?;
-        put(&mut self.analysis.wanted, literal.place(), literal.least);
-        put_index(&mut self.analysis.changes, literal.place(), number);
-        self.count_change(number, true);
-        if literal.bound >= self.known.times {
-            self.choice.ask_for(index(self.known.block_number(literal)));
+        if self.wanted.need(literal, number, &known.trail)? && literal.bound >= known.times {
+            choice.ask_for(index(known.block_number(literal)));
         }
         Ok(())
     }
 
-    // Counts a change that is needed, or isn't any longer, if it is of the last level.
-    fn count_change(&mut self, number: u32, is_more: bool) {
-        if self.known.trail.event(number).level as usize == self.known.trail.level() {
-            self.analysis.open = if is_more {
-                self.analysis.open.wrapping_add(1)
-            } else {
-                self.analysis.open.wrapping_sub(1)
-            };
-        }
-    }
-
     // Replaces changes of the last level by why they came, the last first, until one is left.
-    fn resolve(&mut self) -> Result<Literal, AllocError> {
-        for place in (0..self.known.trail.events.len()).rev() {
-            let number = index(place);
-            let event = self.known.trail.event(number);
-            if self.analysis.change(event.bound) != number {
+    fn resolve(
+        &mut self,
+        known: &mut Known,
+        choice: &mut Choice,
+        conflicts: u64,
+    ) -> Result<Literal, AllocError> {
+        let count = known.trail.events.len();
+        let mut number = index(count);
+        for _ in 0..count {
+            number = number.wrapping_sub(1);
+            let event = known.trail.event(number);
+            if self.wanted.change(event.bound) != number {
                 continue;
             }
-            let literal = self.analysis.wanted(event.bound);
-            if self.analysis.open <= 1 {
+            let literal = self.wanted.literal(event.bound);
+            if self.wanted.open <= 1 {
                 return Ok(literal);
             }
-            put_index(&mut self.analysis.changes, literal.place(), NONE);
-            self.analysis.open = self.analysis.open.wrapping_sub(1);
+            self.wanted.leave(event.bound);
             if let Why::Clause(clause) = event.why {
-                self.known.clauses.note_use(clause, self.pace.conflicts);
+                known.clauses.note_use(clause, conflicts);
             }
-            self.known.explain(literal, event.why)?;
-            self.analysis.note_used(number, literal)?;
-            for place in 0..self.known.needs.len() {
-                self.need_of(place, true)?;
+            known.explain(literal, event.why)?;
+            self.argument.note_used(number, literal)?;
+            for place in 0..known.needs.len() {
+                let need = literal_at(&known.needs, place);
+                self.need(need, known, choice)?;
             }
         }
         Ok(Literal::of(0, 0))
     }
 
     // What is needed of a bound belongs to the clause, but where the others imply it.
-    fn keep_or_drop(&mut self, bound: u32, point: Literal) -> Result<(), AllocError> {
-        let number = self.analysis.change(bound);
-        if number == NONE || bound == point.bound {
+    fn keep_or_drop(
+        &mut self,
+        bound: u32,
+        point: Literal,
+        known: &mut Known,
+    ) -> Result<(), AllocError> {
+        if self.wanted.change(bound) == NONE || bound == point.bound {
             return Ok(());
         }
-        let literal = self.analysis.wanted(bound);
-        if self.is_dropped(literal)? {
+        let literal = self.wanted.literal(bound);
+        if self.is_dropped(literal, known)? {
             return Ok(());
         }
-        push(&mut self.analysis.learned, literal.opposite())
+        push(&mut self.learned, literal.opposite())
     }
 
     // Whether the others imply the literal; then what shows it is noted.
-    fn is_dropped(&mut self, literal: Literal) -> Result<bool, AllocError> {
-        let used = self.analysis.used.len();
-        let grounds = self.analysis.grounds.len();
-        self.analysis.left = LOOKS;
-        if self.is_implied(literal, DEPTH)? {
+    fn is_dropped(&mut self, literal: Literal, known: &mut Known) -> Result<bool, AllocError> {
+        let used = self.argument.used.len();
+        let grounds = self.argument.grounds.len();
+        self.left = LOOKS;
+        if self.is_implied(literal, DEPTH, known)? {
             return Ok(true);
         }
-        self.analysis.used.truncate(used);
-        self.analysis.grounds.truncate(grounds);
+        self.argument.used.truncate(used);
+        self.argument.grounds.truncate(grounds);
         Ok(false)
     }
 
     // Whether all by which a literal came to hold is needed anyway, by earlier changes, or implied in turn.
-    fn is_implied(&mut self, literal: Literal, depth: u32) -> Result<bool, AllocError> {
-        let Some(number) = self.known.trail.event_of(literal) else {
+    fn is_implied(
+        &mut self,
+        literal: Literal,
+        depth: u32,
+        known: &mut Known,
+    ) -> Result<bool, AllocError> {
+        let Some(number) = known.trail.event_of(literal) else {
             return Ok(true);
         };
-        let why = self.known.trail.event(number).why;
-        if depth == 0 || self.analysis.left == 0 || matches!(why, Why::Decided) {
+        let why = known.trail.event(number).why;
+        if depth == 0 || self.left == 0 || matches!(why, Why::Decided) {
             return Ok(false);
         }
         let below = depth - 1;
-        self.analysis.left = self.analysis.left.wrapping_sub(1);
-        self.known.explain(literal, why)?;
-        self.analysis.note_used(number, literal)?;
-        let start = self.analysis.stack.len();
-        self.analysis.stack.extend_from_slice(&self.known.needs)?;
-        let end = self.analysis.stack.len();
+        self.left = self.left.wrapping_sub(1);
+        known.explain(literal, why)?;
+        self.argument.note_used(number, literal)?;
+        let start = self.stack.len();
+        self.stack.extend_from_slice(&known.needs)?;
+        let end = self.stack.len();
         let mut is_implied = true;
         for place in start..end {
-            let need = literal_at(&self.analysis.stack, place);
-            if !self.is_needed_before(need, number)? {
-                is_implied = self.is_implied(need, below)?;
+            let need = literal_at(&self.stack, place);
+            if !self.is_needed_before(need, number, &known.trail)? {
+                is_implied = self.is_implied(need, below, known)?;
             }
             if !is_implied {
                 break;
             }
         }
-        self.analysis.stack.truncate(start);
+        self.stack.truncate(start);
         Ok(is_implied)
     }
 
     // Whether a literal held before the first decision, or is needed by a change before this one.
-    fn is_needed_before(&mut self, literal: Literal, number: u32) -> Result<bool, AllocError> {
-        let Some(other) = self.known.trail.event_of(literal) else {
+    fn is_needed_before(
+        &mut self,
+        literal: Literal,
+        number: u32,
+        trail: &Trail,
+    ) -> Result<bool, AllocError> {
+        let Some(other) = trail.event_of(literal) else {
             return Ok(true);
         };
-        if self.known.trail.event(other).level == 0 {
-            push(&mut self.analysis.grounds, other)?;
+        if self.argument.is_ground(other, trail)? {
             return Ok(true);
         }
         Ok(
-            self.analysis.change(literal.bound) < number
-                && self.analysis.wanted(literal.bound).least >= literal.least,
+            self.wanted.change(literal.bound) < number
+                && self.wanted.literal(literal.bound).least >= literal.least,
         )
     }
+}
 
-    // Puts a literal of the last level but that of the first one second, and answers that level.
-    fn put_second(&mut self) -> usize {
-        let mut level: u32 = 0;
-        let mut second: usize = 1;
-        for (place, literal) in self.analysis.learned.iter().enumerate().skip(1) {
-            let own = self.known.trail.level_of(literal.opposite());
-            if own > level {
-                level = own;
-                second = place;
-            }
-        }
-        exchange(&mut self.analysis.learned, 1, second);
-        level as usize
-    }
+fn is_of_last_level(number: u32, trail: &Trail) -> bool {
+    trail.event(number).level as usize == trail.level()
+}
 
-    fn count_levels(&mut self) -> u32 {
-        for literal in &self.analysis.learned {
-            let level = self.known.trail.level_of(literal.opposite());
-            // Without memory a clause may be taken for one of fewer levels.
-            let _ = self.analysis.levels.push(level);
-        }
-        self.analysis.levels.sort_unstable();
-        let mut count: u32 = 0;
-        let mut last = NONE;
-        for level in &self.analysis.levels {
-            if *level != last {
-                count = count.wrapping_add(1);
-            }
-            last = *level;
-        }
-        count
-    }
-
-    // Records the clause with its deeds, in the order of the changes.
-    fn note_lesson(&mut self) -> Result<u32, AllocError> {
-        self.analysis.used.sort_unstable_by_key(|used| used.number);
-        let mut last = NOT_USED;
-        for place in 0..self.analysis.used.len() {
-            let used = item_at(&self.analysis.used, place, NOT_USED);
-            if used.number == last.number && used.least == last.least {
-                continue;
-            }
-            last = used;
-            self.note_deed(used)?;
-        }
-        if let Some(deed) = self.known.clash_deed {
-            push(&mut self.analysis.deeds, deed)?;
-        }
-        self.known.record.add(
-            &self.analysis.learned,
-            &self.analysis.deeds,
-            &self.analysis.grounds,
-        )
-    }
-
-    fn note_deed(&mut self, used: Used) -> Result<(), AllocError> {
-        let event = self.known.trail.event(used.number);
-        let literal = Literal::of(event.bound, used.least);
-        match self.known.kept_deed(literal, event.why)? {
-            Some(deed) => push(&mut self.analysis.deeds, deed),
-            None => Ok(()),
+// Puts a literal of the last level but that of the first one second, and answers that level.
+fn put_second(learned: &mut [Literal], trail: &Trail) -> usize {
+    let mut level: u32 = 0;
+    let mut second: usize = 1;
+    for place in 1..learned.len() {
+        let own = trail.level_of(literal_at(learned, place).opposite());
+        if own > level {
+            level = own;
+            second = place;
         }
     }
+    exchange(learned, 1, second);
+    level as usize
+}
+
+fn count_levels(learned: &[Literal], levels: &mut Vec<u32>, trail: &Trail) -> u32 {
+    for literal in learned {
+        let level = trail.level_of(literal.opposite());
+        // Without memory a clause may be taken for one of fewer levels.
+        let _ = levels.push(level);
+    }
+    levels.sort_unstable();
+    let mut count: u32 = 0;
+    let mut last = NONE;
+    for level in levels.iter() {
+        if *level != last {
+            count = count.wrapping_add(1);
+        }
+        last = *level;
+    }
+    count
 }

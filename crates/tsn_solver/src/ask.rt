@@ -2,9 +2,8 @@
 use crate::search::Search;
 use std::alloc::AllocError;
 use tsn_bounds::literal::Literal;
-use tsn_bounds::number::{index, mark, push, sum};
+use tsn_bounds::number::push;
 use tsn_bounds::reason::Why;
-use tsn_bounds::table::{Pair, place_of, signed_place};
 
 // How many more learned clauses are kept each time that some are forgotten.
 const MORE: usize = 300;
@@ -56,8 +55,8 @@ impl Search {
         if !self.known.is_open {
             return Ok(false);
         }
-        if !self.raise(literal, why)? || !self.propagate()? {
-            self.end()?;
+        if !self.known.raise(literal, why)? || !self.propagate()? {
+            self.analysis.end(&mut self.known)?;
         }
         Ok(self.known.is_open)
     }
@@ -80,49 +79,39 @@ impl Search {
             if self.known.trail.is_false(premise) {
                 return Ok(Some(Answered::No));
             }
-            return self.decide(premise);
+            self.known.decide(premise)?;
+            return Ok(None);
         }
-        match self.choose()? {
-            Some(choice) => self.decide(choice),
-            None => {
-                self.note_found()?;
-                Ok(Some(Answered::Yes))
-            }
+        if let Some(literal) = self.choice.choose(&self.known)? {
+            self.known.decide(literal)?;
+            return Ok(None);
         }
-    }
-
-    fn decide(&mut self, literal: Literal) -> Result<Option<Answered>, AllocError> {
-        self.known.trail.open()?;
-        let _ = self.raise(literal, Why::Decided)?;
-        Ok(None)
+        self.found.clear();
+        self.known.put_least(&mut self.found)?;
+        Ok(Some(Answered::Yes))
     }
 
     // Learns from the clash.
     fn learn(&mut self) -> Result<Option<Answered>, AllocError> {
         self.pace.count_conflict();
-        let level = self.clash_level();
+        let level = self.known.clash_level();
         self.go_back(level)?;
         if level == 0 {
-            self.end()?;
+            self.analysis.end(&mut self.known)?;
             return Ok(Some(Answered::No));
         }
-        let lesson = self.analyze()?;
+        let conflicts = self.pace.conflicts;
+        let lesson = self
+            .analysis
+            .analyze(&mut self.known, &mut self.choice, conflicts)?;
         self.go_back(lesson.level)?;
-        let Some(&first) = self.analysis.learned.first() else {
-            return Ok(None);
-        };
-        if self.analysis.learned.len() == 1 {
+        let learned = self.analysis.learned.as_slice();
+        if learned.len() > 1 {
+            self.known
+                .add_lesson(learned, lesson.shown, lesson.levels, conflicts)?;
+        } else if let Some(&first) = learned.first() {
             let _ = self.assert_ground(first, Why::Shown(lesson.shown))?;
-            return Ok(None);
         }
-        let clause = self.known.clauses.add(
-            &self.analysis.learned,
-            lesson.shown,
-            lesson.levels,
-            self.pace.conflicts,
-            true,
-        )?;
-        let _ = self.raise(first, Why::Clause(clause))?;
         Ok(None)
     }
 
@@ -133,76 +122,7 @@ impl Search {
         self.go_back(level)?;
         if self.known.clauses.learned > self.most_kept {
             self.most_kept = self.most_kept.wrapping_add(MORE);
-            let mut is_needed = Vec::new(self.alloc);
-            is_needed.resize(self.known.clauses.list.len(), false)?;
-            for event in &self.known.trail.events {
-                if let Why::Clause(clause) = event.why {
-                    mark(&mut is_needed, clause as usize, true);
-                }
-            }
-            self.known.clauses.forget(self.alloc, &is_needed)?;
-        }
-        Ok(())
-    }
-
-    // A side of the most active block that isn't decided. None where the least offsets are a schedule.
-    fn choose(&mut self) -> Result<Option<Literal>, AllocError> {
-        for _ in 0..self.known.table.blocks.len() {
-            let Some(place) = self.choice.take() else {
-                return Ok(None);
-            };
-            let number = self.known.table.owner(place as usize);
-            let pair = self.known.table.pair(number);
-            let block = signed_place((place as usize).wrapping_sub(pair.start));
-            let (least, greatest) = self.gaps_left(number);
-            if block < least || block >= greatest {
-                continue;
-            }
-            if self.is_calm(number, pair, place)? {
-                return Ok(None);
-            }
-            return Ok(Some(self.side_of(number, block)));
-        }
-        Ok(None)
-    }
-
-    // The side of a block on which the gap is that is tried first.
-    fn side_of(&self, number: usize, block: i64) -> Literal {
-        let bound = self.known.gap(number);
-        if self.choice.gap(number) > block {
-            Literal::of(bound, sum(block, 1))
-        } else {
-            Literal::of(bound ^ 1, block.wrapping_neg())
-        }
-    }
-
-    // Whether the least offsets violate no block; it's looked at now and then where they violate none of a pair.
-    fn is_calm(&mut self, number: usize, pair: Pair, place: u32) -> Result<bool, AllocError> {
-        if self.violated(number, pair).is_some() {
-            return Ok(false);
-        }
-        self.calm = self.calm.wrapping_add(1);
-        if self.calm % 32 != 0 || self.is_any_violated() {
-            return Ok(false);
-        }
-        self.choice.put_in(place)?;
-        Ok(true)
-    }
-
-    fn is_any_violated(&self) -> bool {
-        for (number, pair) in self.known.table.pairs.iter().enumerate() {
-            if self.violated(number, *pair).is_some() {
-                return true;
-            }
-        }
-        false
-    }
-
-    fn note_found(&mut self) -> Result<(), AllocError> {
-        self.found.clear();
-        for stream in 0..self.known.table.streams() {
-            let least = self.known.low(stream);
-            push(&mut self.found, least)?;
+            self.known.forget_clauses(self.alloc)?;
         }
         Ok(())
     }

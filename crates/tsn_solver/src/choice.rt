@@ -1,7 +1,11 @@
 //! Which block is decided next: the one that conflicts asked for most of late (Moskewicz, Madigan, Zhao, Zhang and Malik 2001), from a
 //! binary heap.
 use std::alloc::{AllocError, Global};
-use tsn_bounds::number::{NONE, at, index, index_at, item_at, push, put, put_index, put_item};
+use tsn_bounds::known::Known;
+use tsn_bounds::literal::Literal;
+use tsn_bounds::number::{NONE, at, index, index_at, item_at, push, put, put_index, put_item, sum};
+use tsn_bounds::table::{Pair, Table, place_of, signed_place};
+use tsn_bounds::trail::Event;
 
 /// The blocks that may be decided, by their numbers.
 #[derive(Drop)]
@@ -14,6 +18,8 @@ pub struct Choice {
     places: Vec<u32>,
     // The gap of each pair that is tried first.
     gaps: Vec<i64>,
+    // How many blocks were chosen that the least offsets keep.
+    calm: u64,
 }
 
 impl Choice {
@@ -25,13 +31,15 @@ impl Choice {
             heap: Vec::new(alloc),
             places: Vec::new(alloc),
             gaps: Vec::new(alloc),
+            calm: 0,
         }
     }
 
-    /// Puts so many blocks in of so many pairs, all equal. The error says that there was no memory.
-    pub fn fill(&mut self, blocks: usize, pairs: usize) -> Result<(), AllocError> {
+    /// Puts the blocks of a network in, all equal. The error says that there was no memory.
+    pub fn fill(&mut self, table: &Table) -> Result<(), AllocError> {
+        let blocks = table.blocks.len();
         self.places.resize(blocks, NONE)?;
-        self.gaps.resize(pairs, 0)?;
+        self.gaps.resize(table.pairs.len(), 0)?;
         for block in 0..blocks {
             push(&mut self.activities, 0.0)?;
             self.put_in(index(block))?;
@@ -49,12 +57,96 @@ impl Choice {
         Ok(())
     }
 
+    /// Goes back to the end of a level. The error says that there was no memory.
+    pub fn go_back(&mut self, known: &mut Known, level: usize) -> Result<(), AllocError> {
+        for _ in 0..known.trail.events.len() {
+            let Some(event) = known.trail.take_back(level) else {
+                break;
+            };
+            if event.bound >= known.times {
+                let number = known.pair_number(event.bound);
+                self.free(number, known.table.pair(number), event)?;
+            }
+        }
+        if level < known.trail.level() {
+            known.trail.close(level);
+            known.calls.dismiss();
+        }
+        Ok(())
+    }
+
+    // A bound of a pair's gap isn't as narrow any longer: the blocks between may be decided again, and at first as they were.
+    fn free(&mut self, number: usize, pair: Pair, event: Event) -> Result<(), AllocError> {
+        let gap = self.gap(number);
+        if event.bound & 1 == 0 {
+            self.set_gap(number, gap.max(event.new));
+            self.put_blocks(pair.start, event.old, event.new)
+        } else {
+            let most = event.new.wrapping_neg();
+            self.set_gap(number, gap.min(most));
+            self.put_blocks(pair.start, most, event.old.wrapping_neg())
+        }
+    }
+
+    fn put_blocks(&mut self, start: usize, from: i64, to: i64) -> Result<(), AllocError> {
+        let first = start.wrapping_add(place_of(from));
+        let end = start.wrapping_add(place_of(to));
+        for block in first..end {
+            self.put_in(index(block))?;
+        }
+        Ok(())
+    }
+
+    /// Which gaps are tried first: as offsets have them.
+    pub fn set_sides(&mut self, table: &Table, offsets: &[i64]) {
+        for pair in 0..table.pairs.len() {
+            self.set_gap(pair, table.gap_by(pair, offsets));
+        }
+    }
+
+    /// A side of the most active block that isn't decided. None where the least offsets are a schedule.
+    pub fn choose(&mut self, known: &Known) -> Result<Option<Literal>, AllocError> {
+        for _ in 0..known.table.blocks.len() {
+            let Some(place) = self.take() else {
+                return Ok(None);
+            };
+            let number = known.table.owner(place as usize);
+            let pair = known.table.pair(number);
+            let block = signed_place((place as usize).wrapping_sub(pair.start));
+            let (least, greatest) = known.gaps_left(number);
+            if block < least || block >= greatest {
+                continue;
+            }
+            if self.is_calm(number, pair, known) {
+                self.put_in(place)?;
+                return Ok(None);
+            }
+            return Ok(Some(self.side_of(number, block, known.gap(number))));
+        }
+        Ok(None)
+    }
+
+    // The side of a block of a pair on which the gap is that is tried first, by the bound of the pair's least gap.
+    fn side_of(&self, pair: usize, block: i64, bound: u32) -> Literal {
+        if self.gap(pair) > block {
+            Literal::of(bound, sum(block, 1))
+        } else {
+            Literal::of(bound ^ 1, block.wrapping_neg())
+        }
+    }
+
+    // Whether the least offsets violate no block; it's looked at now and then where they violate none of a pair.
+    fn is_calm(&mut self, number: usize, pair: Pair, known: &Known) -> bool {
+        if known.is_violated(number, pair) {
+            return false;
+        }
+        self.calm = self.calm.wrapping_add(1);
+        self.calm % 32 == 0 && !known.is_any_violated()
+    }
+
     /// Takes the most active one out.
     pub fn take(&mut self) -> Option<u32> {
-        let most = match self.heap.first() {
-            Some(block) => *block,
-            None => return None,
-        };
+        let most = *self.heap.first()?;
         put_index(&mut self.places, most as usize, NONE);
         let last = self.heap.pop()?;
         if last != most {

@@ -1,9 +1,10 @@
 //! Full links: what is before a frame, or behind it, is a sum of some of the others' works, and some of the time that all of them leave.
 //! A frame's head is the least instant at which it may start on the link, its end the greatest at which its occupancy may end. Seen from
 //! the end of the cycle, on side 1, each number's sign is turned and heads are ends. Times are in nanoseconds.
-use crate::line::Standing;
+use crate::line::{Standing, standing_at};
 use crate::sums::{Sums, divisor};
 use std::alloc::{AllocError, Global};
+use tsn_bounds::literal::Literal;
 use tsn_bounds::number::{FAR, NONE, index, item_at, less, next, push, sum};
 use tsn_bounds::reason::{Filling, Part};
 use tsn_bounds::record::short;
@@ -48,6 +49,20 @@ const NO_STANDING: Standing = Standing {
     most: 0,
 };
 
+/// A set that leaves little: its frames, its least head, its greatest end, and how much it leaves.
+#[derive(Drop)]
+pub struct TightSet {
+    list: Vec<Standing>,
+    begin: i64,
+    tight: Tight,
+    unit: i64,
+    // The numbers of its frames, a greater end first.
+    back: Vec<usize>,
+    /// The frames that can't move, by their places.
+    pub fixed: Vec<u16>,
+    gaps: Vec<Gap>,
+}
+
 /// What is found of sets that leave little.
 #[derive(Drop)]
 pub struct Fills {
@@ -58,16 +73,9 @@ pub struct Fills {
     pub ends: Vec<i64>,
     /// Whether the rooms leave more than the set does; then what was found last is the set as it stands.
     pub is_wasted: bool,
-    /// The frames of the set that can't move, by their places.
-    pub fixed: Vec<u16>,
-    // The set: its least head, its greatest end, and how much it leaves.
-    set: Vec<Standing>,
-    begin: i64,
-    tight: Tight,
-    unit: i64,
-    // The numbers of its frames, a greater end first.
-    back: Vec<usize>,
-    gaps: Vec<Gap>,
+    /// The literals of what was found.
+    pub gathered: Vec<Literal>,
+    pub set: TightSet,
     left: Sums,
     right: Sums,
     is_right_made: bool,
@@ -84,13 +92,8 @@ impl Fills {
             heads: Vec::new(alloc),
             ends: Vec::new(alloc),
             is_wasted: false,
-            fixed: Vec::new(alloc),
-            set: Vec::new(alloc),
-            begin: 0,
-            tight: Tight::none(),
-            unit: 1,
-            back: Vec::new(alloc),
-            gaps: Vec::new(alloc),
+            gathered: Vec::new(alloc),
+            set: TightSet::none(alloc),
             left: Sums::none(alloc),
             right: Sums::none(alloc),
             is_right_made: false,
@@ -122,13 +125,13 @@ impl Fills {
         link: u32,
         side: u32,
     ) -> Result<(), AllocError> {
-        if !self.take_set(heads, tight)? {
+        if !self.set.take(heads, tight)? {
             return Ok(());
         }
-        self.part()?;
+        self.set.part()?;
         let mut wasted = 0i64;
-        for number in 0..self.gaps.len() {
-            let Some(&gap) = self.gaps.get(number) else {
+        for number in 0..self.set.gaps.len() {
+            let Some(&gap) = self.set.gaps.get(number) else {
                 break;
             };
             self.sum_up_left(gap);
@@ -157,89 +160,17 @@ impl Fills {
         Ok(())
     }
 
-    // The frames of at most the set's end that have to be done by it, but for its idle time. Whether there are enough.
-    fn take_set(&mut self, heads: &[Standing], tight: Tight) -> Result<bool, AllocError> {
-        self.set.clear();
-        self.tight = tight;
-        self.begin = tight.end;
-        let mut work = 0i64;
-        for own in heads.iter().rev() {
-            if own.end <= tight.end {
-                work = sum(work, own.work);
-                if sum(own.head, work) == less(tight.end, tight.idle) {
-                    self.begin = own.head;
-                }
-            }
-        }
-        self.unit = 0;
-        for own in heads {
-            if own.end <= tight.end && own.head >= self.begin {
-                push(&mut self.set, *own)?;
-                self.unit = divisor(self.unit, own.work);
-            }
-        }
-        Ok(self.set.len() >= FEWEST)
-    }
-
-    // The rooms between frames that can't move, and the frames in the order of falling ends.
-    fn part(&mut self) -> Result<(), AllocError> {
-        self.gaps.clear();
-        self.fixed.clear();
-        self.back.clear();
-        let mut low = self.begin;
-        let mut before = NONE;
-        for number in 0..self.set.len() {
-            let own = self.own(number);
-            push(&mut self.back, number)?;
-            if sum(own.head, own.work) < own.end {
-                continue;
-            }
-            push(&mut self.fixed, short(own.place))?;
-            let after = index(number);
-            let high = own.head;
-            self.push_gap(Gap {
-                low,
-                high,
-                before,
-                after,
-            })?;
-            low = own.end;
-            before = after;
-        }
-        self.push_gap(Gap {
-            low,
-            high: self.tight.end,
-            before,
-            after: NONE,
-        })?;
-        let set = self.set.as_slice();
-        self.back.sort_unstable_by_key(|number| item_at(set, *number, NO_STANDING)
-            .end
-            .wrapping_neg());
-        Ok(())
-    }
-
-    fn push_gap(&mut self, gap: Gap) -> Result<(), AllocError> {
-        if gap.high > gap.low {
-            push(&mut self.gaps, gap)?;
-        }
-        Ok(())
-    }
-
-    fn own(&self, number: usize) -> Standing {
-        item_at(&self.set, number, NO_STANDING)
-    }
-
     // The sums of the frames that may be in a room, from its begin on: one goes after others only where they come up to its head but for
     // the idle time.
     fn sum_up_left(&mut self, gap: Gap) {
-        self.left.begin(self.unit, less(gap.high, gap.low));
+        self.left.begin(self.set.unit, less(gap.high, gap.low));
         self.is_right_made = false;
-        self.looked = self.looked.wrapping_add(self.set.len());
-        for own in &self.set {
+        self.looked = self.looked.wrapping_add(self.set.list.len());
+        for own in &self.set.list {
             if may_lie(own, gap) {
                 let ahead = less(own.head, gap.low).max(0);
-                self.left.add(own.work, less(ahead, self.tight.idle).max(0));
+                self.left
+                    .add(own.work, less(ahead, self.set.tight.idle).max(0));
             }
         }
     }
@@ -250,22 +181,22 @@ impl Fills {
             return;
         }
         self.is_right_made = true;
-        self.right.begin(self.unit, less(gap.high, gap.low));
-        self.looked = self.looked.wrapping_add(self.set.len());
-        for number in &self.back {
-            let own = item_at(&self.set, *number, NO_STANDING);
+        self.right.begin(self.set.unit, less(gap.high, gap.low));
+        self.looked = self.looked.wrapping_add(self.set.list.len());
+        for number in &self.set.back {
+            let own = item_at(&self.set.list, *number, NO_STANDING);
             if may_lie(&own, gap) {
                 let behind = less(gap.high, own.end).max(0);
                 self.right
-                    .add(own.work, less(behind, self.tight.idle).max(0));
+                    .add(own.work, less(behind, self.set.tight.idle).max(0));
             }
         }
     }
 
     // Where the frames of a room may start in it.
     fn place_all(&mut self, gap: Gap, link: u32, side: u32) -> Result<(), AllocError> {
-        for number in 0..self.set.len() {
-            let own = self.own(number);
+        for number in 0..self.set.list.len() {
+            let own = self.set.own(number);
             if sum(own.head, own.work) >= own.end || own.head < gap.low || own.head >= gap.high {
                 continue;
             }
@@ -290,11 +221,11 @@ impl Fills {
             let behind = less(less(gap.high, place), own.work);
             let left = self.left.wasted(before);
             let right = self.right.wasted(behind);
-            if sum(left, right) <= self.tight.idle {
+            if sum(left, right) <= self.set.tight.idle {
                 return place;
             }
             if !self.left.is_near(before) {
-                let rest = sum(self.right.below(behind), self.tight.idle);
+                let rest = sum(self.right.below(behind), self.set.tight.idle);
                 return less(less(gap.high, own.work), rest);
             }
             place = sum(gap.low, self.left.above(before));
@@ -312,9 +243,9 @@ impl Fills {
         side: u32,
     ) -> Result<(), AllocError> {
         let start = self.places.len();
-        for other in 0..self.set.len() {
-            let own = self.own(other);
-            let (first, last) = self.needed(gap, number, other, own);
+        for other in 0..self.set.list.len() {
+            let own = self.set.own(other);
+            let (first, last) = self.set.needed(gap, number, other, own);
             push(&mut self.places, short(own.place))?;
             push(&mut self.heads, first)?;
             push(&mut self.ends, last)?;
@@ -322,18 +253,122 @@ impl Fills {
         let filling = Filling {
             link,
             side,
-            place: self.own(number).place,
+            place: self.set.own(number).place,
             frames: Part {
                 start,
-                count: self.set.len(),
+                count: self.set.list.len(),
             },
-            before: self.place_of(gap.before),
-            after: self.place_of(gap.after),
+            before: self.set.place_of(gap.before),
+            after: self.set.place_of(gap.after),
             head,
             needs: Part { start: 0, count: 0 },
             kept: NONE,
         };
         push(&mut self.found, filling)
+    }
+
+    // Notes that the rooms leave more than the set.
+    fn note_waste(&mut self) -> Result<(), AllocError> {
+        self.is_wasted = true;
+        self.places.clear();
+        self.heads.clear();
+        self.ends.clear();
+        for own in &self.set.list {
+            push(&mut self.places, short(own.place))?;
+            push(&mut self.heads, own.head)?;
+            push(&mut self.ends, own.end)?;
+        }
+        Ok(())
+    }
+}
+
+impl TightSet {
+    fn none(alloc: Global) -> TightSet {
+        TightSet {
+            list: Vec::new(alloc),
+            begin: 0,
+            tight: Tight::none(),
+            unit: 1,
+            back: Vec::new(alloc),
+            fixed: Vec::new(alloc),
+            gaps: Vec::new(alloc),
+        }
+    }
+
+    // The frames of at most the set's end that have to be done by it, but for its idle time. Whether there are enough.
+    fn take(&mut self, heads: &[Standing], tight: Tight) -> Result<bool, AllocError> {
+        self.list.clear();
+        self.tight = tight;
+        self.begin = tight.end;
+        let mut work = 0i64;
+        let mut rank = heads.len();
+        for _ in 0..heads.len() {
+            rank = rank.wrapping_sub(1);
+            let own = standing_at(heads, rank);
+            if own.end <= tight.end {
+                work = sum(work, own.work);
+                if sum(own.head, work) == less(tight.end, tight.idle) {
+                    self.begin = own.head;
+                }
+            }
+        }
+        self.unit = 0;
+        for own in heads {
+            if own.end <= tight.end && own.head >= self.begin {
+                push(&mut self.list, *own)?;
+                self.unit = divisor(self.unit, own.work);
+            }
+        }
+        Ok(self.list.len() >= FEWEST)
+    }
+
+    // The rooms between frames that can't move, and the frames in the order of falling ends.
+    fn part(&mut self) -> Result<(), AllocError> {
+        self.gaps.clear();
+        self.fixed.clear();
+        self.back.clear();
+        let mut low = self.begin;
+        let mut before = NONE;
+        for number in 0..self.list.len() {
+            let own = self.own(number);
+            push(&mut self.back, number)?;
+            if sum(own.head, own.work) < own.end {
+                continue;
+            }
+            push(&mut self.fixed, short(own.place))?;
+            let after = index(number);
+            let high = own.head;
+            self.push_gap(Gap {
+                low,
+                high,
+                before,
+                after,
+            })?;
+            low = own.end;
+            before = after;
+        }
+        self.push_gap(Gap {
+            low,
+            high: self.tight.end,
+            before,
+            after: NONE,
+        })?;
+        let set = self.list.as_slice();
+        self.back.sort_unstable_by_key(|number| item_at(set, *number, NO_STANDING)
+            .end
+            .wrapping_neg());
+        Ok(())
+    }
+
+    fn push_gap(&mut self, gap: Gap) -> Result<(), AllocError> {
+        if gap.high > gap.low {
+            push(&mut self.gaps, gap)?;
+        }
+        Ok(())
+    }
+
+    fn own(&self, number: usize) -> Standing {
+        item_at(&self.list, number, NO_STANDING)
     }
 
     fn place_of(&self, number: u32) -> u32 {
@@ -370,30 +405,6 @@ impl Fills {
             far
         };
         (first, last)
-    }
-
-    // Notes that the rooms leave more than the set.
-    fn note_waste(&mut self) -> Result<(), AllocError> {
-        self.is_wasted = true;
-        self.places.clear();
-        self.heads.clear();
-        self.ends.clear();
-        for own in &self.set {
-            push(&mut self.places, short(own.place))?;
-            push(&mut self.heads, own.head)?;
-            push(&mut self.ends, own.end)?;
-        }
-        Ok(())
-    }
-
-    /// The frames of what was found, by their places on the link.
-    pub fn frames_of(&self, part: Part) -> &[u16] {
-        let end = part.start.wrapping_add(part.count);
-        if part.start <= end && end <= self.places.len() {
-            &self.places[part.start..end]
-        } else {
-            &[]
-        }
     }
 }
 

@@ -7,6 +7,7 @@ mod analysis;
 pub mod ask;
 pub mod choice;
 mod fill;
+mod found;
 mod gaps;
 mod line;
 mod overload;

@@ -4,12 +4,11 @@
 //! Times are in nanoseconds.
 use crate::fill::{Fills, Tight};
 use crate::line::{Limit, Line, Standing, standing_at};
+use crate::overload::Crowd;
 use crate::ranks::Ranks;
 use crate::rows::{Ease, Room};
 use std::alloc::{AllocError, Global};
-use tsn_bounds::number::{
-    FAR, NONE, at, index, is_marked, item_at, less, mark, next, push, put, put_item, sum,
-};
+use tsn_bounds::number::{FAR, NONE, at, index, item_at, less, next, push, put, put_item, sum};
 use tsn_bounds::reason::{Part, Placing};
 use tsn_bounds::record::{places_of, short};
 use tsn_bounds::table::{Shared, Table};
@@ -43,21 +42,55 @@ struct Rest {
 
 const NO_REST: Rest = Rest { length: 0, left: 0 };
 
+/// How links rest.
+#[derive(Drop)]
+pub struct Rests {
+    // Of each link; empty where links don't rest.
+    list: Vec<Rest>,
+}
+
+impl Rests {
+    fn none(alloc: Global) -> Rests {
+        Rests {
+            list: Vec::new(alloc),
+        }
+    }
+
+    /// Whether a link that was called rests: it's called in vain after looks that found nothing, the more such looks the more often.
+    pub fn rests(&mut self, link: usize) -> bool {
+        let Rest { length, left } = item_at(&self.list, link, NO_REST);
+        if left == 0 {
+            return false;
+        }
+        let left = left.wrapping_sub(1);
+        put_item(&mut self.list, link, Rest { length, left });
+        true
+    }
+
+    /// Something was found on the link in hand: it doesn't rest.
+    pub fn wake(&mut self, link: usize) {
+        put_item(&mut self.list, link, NO_REST);
+    }
+
+    // Nothing was found from either side of the link in hand: it rests.
+    fn leave(&mut self, link: usize) {
+        let twice = item_at(&self.list, link, NO_REST).length.wrapping_mul(2);
+        let length = twice.wrapping_add(1).min(LONGEST_REST);
+        let left = length;
+        put_item(&mut self.list, link, Rest { length, left });
+    }
+}
+
 /// The links, and what is found of the one that is looked at.
 #[derive(Drop)]
 pub struct Rooms {
-    pub found: Vec<LastFrame>,
+    pub lasts: LastFrames,
     /// How many frames were looked at.
     pub looked: usize,
     rooms: Vec<Room>,
-    // Of each link; empty where links don't rest.
-    rests: Vec<Rest>,
-    // The links that are to be looked at.
-    waiting: Vec<u32>,
-    // How many of them were looked at.
-    passed: usize,
-    is_waiting: Vec<bool>,
+    pub rests: Rests,
     sweep: LinkSweep,
+    pub crowd: Crowd,
     pub fills: Fills,
 }
 
@@ -69,40 +102,43 @@ struct LinkSweep {
     late: usize,
     // The ranks of those that aren't taken in.
     rest_ranks: Ranks,
+    ease: Ease,
+    // Of the sets that leave least the first and the last one.
+    first_tight: Tight,
+    tight: Tight,
+}
+
+/// Which frames go last.
+#[derive(Drop)]
+pub struct LastFrames {
+    pub found: Vec<LastFrame>,
+    // The others of the placings that were found, by their places on the link.
+    places: Vec<u16>,
     // By the ranks, a lesser head first: of those of no greater end behind it and itself the work, when they are done, and the head that
     // this comes from.
     rest: Vec<i64>,
     done: Vec<i64>,
     source: Vec<i64>,
-    ease: Ease,
-    // Of the sets that leave least the first and the last one.
-    first_tight: Tight,
-    tight: Tight,
-    // The others of the placings that were found, and the frames that don't fit, by their places on the link.
-    places: Vec<u16>,
-    crowd: Vec<u16>,
 }
 
-// The link and the side from which it's looked at, and the end that is looked at.
+/// The link and the side from which it's looked at, and the end that is looked at.
 #[derive(Clone, Copy)]
-struct Sight {
-    link: u32,
-    side: u32,
-    end: i64,
+pub struct Sight {
+    pub link: u32,
+    pub side: u32,
+    pub end: i64,
 }
 
 impl Rooms {
     /// No links.
     pub fn none(alloc: Global) -> Rooms {
         Rooms {
-            found: Vec::new(alloc),
+            lasts: LastFrames::none(alloc),
             looked: 0,
             rooms: Vec::new(alloc),
-            rests: Vec::new(alloc),
-            waiting: Vec::new(alloc),
-            passed: 0,
-            is_waiting: Vec::new(alloc),
+            rests: Rests::none(alloc),
             sweep: LinkSweep::none(alloc),
+            crowd: Crowd::none(alloc),
             fills: Fills::none(alloc),
         }
     }
@@ -113,11 +149,12 @@ impl Rooms {
             self.add_room(alloc, shared)?;
         }
         if has_single_frames(&table.links) {
-            self.rests.resize(table.links.len(), NO_REST)?;
+            self.rests.list.resize(table.links.len(), NO_REST)?;
         }
-        self.is_waiting.resize(table.links.len(), false)?;
         let most = self.most_frames();
         self.fills.size()?;
+        self.crowd.size(most)?;
+        self.lasts.size(most)?;
         self.sweep.size(most)
     }
 
@@ -129,11 +166,6 @@ impl Rooms {
         }
     }
 
-    /// How many links there are.
-    pub fn count(&self) -> usize {
-        self.rooms.len()
-    }
-
     /// The most frames of a link.
     pub fn most_frames(&self) -> usize {
         let mut most: usize = 0;
@@ -141,36 +173,6 @@ impl Rooms {
             most = most.max(room.count());
         }
         most
-    }
-
-    /// Notes that a link is to be looked at.
-    pub fn call(&mut self, link: usize) -> Result<(), AllocError> {
-        if link >= self.is_waiting.len() || is_marked(&self.is_waiting, link) {
-            return Ok(());
-        }
-        mark(&mut self.is_waiting, link, true);
-        push(&mut self.waiting, index(link))
-    }
-
-    /// The link that is to be looked at next.
-    pub fn next(&mut self) -> Option<usize> {
-        let Some(&first) = self.waiting.get(self.passed) else {
-            self.dismiss();
-            return None;
-        };
-        let link = first as usize;
-        self.passed = next(self.passed);
-        mark(&mut self.is_waiting, link, false);
-        Some(link)
-    }
-
-    /// No link is to be looked at.
-    pub fn dismiss(&mut self) {
-        for link in &self.waiting {
-            mark(&mut self.is_waiting, *link as usize, false);
-        }
-        self.waiting.clear();
-        self.passed = 0;
     }
 
     /// How many frames a link has.
@@ -188,38 +190,9 @@ impl Rooms {
         }
     }
 
-    /// Whether a link that was called rests: it's called in vain after looks that found nothing, the more such looks the more often.
-    pub fn rests(&mut self, link: usize) -> bool {
-        let rest = item_at(&self.rests, link, NO_REST);
-        if rest.left == 0 {
-            return false;
-        }
-        let left = rest.left.wrapping_sub(1);
-        put_item(&mut self.rests, link, Rest { left, ..rest });
-        true
-    }
-
-    /// Something was found on the link in hand: it doesn't rest.
-    pub fn wake(&mut self, link: usize) {
-        put_item(&mut self.rests, link, NO_REST);
-    }
-
     /// Nothing was found from either side of the link in hand: it rests.
     pub fn leave(&mut self, link: usize) {
-        let rest = item_at(&self.rests, link, NO_REST);
-        let length = rest
-            .length
-            .wrapping_mul(2)
-            .wrapping_add(1)
-            .min(LONGEST_REST);
-        put_item(
-            &mut self.rests,
-            link,
-            Rest {
-                length,
-                left: length,
-            },
-        );
+        self.rests.leave(link);
         if let Some(room) = self.rooms.get_mut(link) {
             room.leave();
         }
@@ -227,8 +200,7 @@ impl Rooms {
 
     /// Looks at the link in hand from one side, from side 0 first.
     pub fn look(&mut self, link: usize, side: u32) -> Result<Option<Overload>, AllocError> {
-        self.found.clear();
-        self.sweep.places.clear();
+        self.lasts.clear();
         self.fills.clear();
         self.looked = 0;
         let Some(room) = self.rooms.get_mut(link) else {
@@ -272,13 +244,13 @@ impl Rooms {
         let ends = row_of(&rows.ends, from, count);
         let overload = self
             .sweep
-            .search(heads, ends, from, sight, &mut self.found)?;
+            .search(heads, ends, from, sight, &mut self.lasts, &mut self.crowd)?;
         if overload.is_some() {
             return Ok(overload);
         }
         let tight = self.sweep.tight;
         let least = least_work(heads);
-        if self.found.is_empty() && tight.idle < least {
+        if self.lasts.found.is_empty() && tight.idle < least {
             let first = self.sweep.first_tight;
             self.fills
                 .search_both(heads, first, tight, sight.link, side)?;
@@ -290,26 +262,6 @@ impl Rooms {
         self.sweep.note_tight(less(tight.idle, least));
         room.note_ease(number, self.sweep.ease);
         Ok(None)
-    }
-
-    /// The others of a placing that was found, by their places on the link.
-    pub fn others_of(&self, placing: Placing) -> &[u16] {
-        places_of(&self.sweep.places, placing.others)
-    }
-
-    /// The frames that don't fit, by their places on the link.
-    pub fn crowd(&self) -> &[u16] {
-        &self.sweep.crowd
-    }
-
-    /// Leaves a frame of the crowd out, by its number there.
-    pub fn leave_out(&mut self, number: usize) {
-        let crowd = &mut self.sweep.crowd;
-        if let Some(last) = crowd.pop() {
-            if number < crowd.len() {
-                crowd[number] = last;
-            }
-        }
     }
 }
 
@@ -349,24 +301,16 @@ impl LinkSweep {
             line: Line::none(alloc),
             late: 0,
             rest_ranks: Ranks::none(alloc),
-            rest: Vec::new(alloc),
-            done: Vec::new(alloc),
-            source: Vec::new(alloc),
             ease: Ease::none(),
             first_tight: Tight::none(),
             tight: Tight::none(),
-            places: Vec::new(alloc),
-            crowd: Vec::new(alloc),
         }
     }
 
     // Makes it one of so many frames.
     fn size(&mut self, most: usize) -> Result<(), AllocError> {
         self.line.size(most)?;
-        self.rest_ranks.size(most)?;
-        self.rest.resize(most, 0)?;
-        self.done.resize(most, 0)?;
-        self.source.resize(most, 0)
+        self.rest_ranks.size(most)
     }
 
     // Takes the frames of a group in one after another, a lesser end first. The group begins at a place of the rows.
@@ -376,7 +320,8 @@ impl LinkSweep {
         ends: &[Standing],
         first: usize,
         sight: Sight,
-        found: &mut Vec<LastFrame>,
+        lasts: &mut LastFrames,
+        crowd: &mut Crowd,
     ) -> Result<Option<Overload>, AllocError> {
         self.line.clear();
         self.late = 0;
@@ -390,7 +335,7 @@ impl LinkSweep {
             let end = own.end;
             let over = self.line.over();
             if over > end {
-                return Ok(Some(self.overload(heads, Sight { end, ..sight })?));
+                return Ok(Some(crowd.gather(heads, Sight { end, ..sight })?));
             }
             self.tight = self.tight.with(Tight {
                 end,
@@ -405,8 +350,8 @@ impl LinkSweep {
                 late = self.latest(heads, own);
             }
             if late > end {
-                self.sum_up_rest(heads, end);
-                self.place_others(heads, Sight { end, ..sight }, found)?;
+                lasts.sum_up_rest(heads, end);
+                lasts.place_others(heads, Sight { end, ..sight })?;
             }
             self.note_room(less(end, over).min(less(end, late)));
         }
@@ -449,13 +394,45 @@ impl LinkSweep {
         };
         self.line.latest(heads, &self.rest_ranks, self.late, limit)
     }
+}
+
+impl LastFrames {
+    fn none(alloc: Global) -> LastFrames {
+        LastFrames {
+            found: Vec::new(alloc),
+            places: Vec::new(alloc),
+            rest: Vec::new(alloc),
+            done: Vec::new(alloc),
+            source: Vec::new(alloc),
+        }
+    }
+
+    // Makes room for so many frames.
+    fn size(&mut self, most: usize) -> Result<(), AllocError> {
+        self.rest.resize(most, 0)?;
+        self.done.resize(most, 0)?;
+        self.source.resize(most, 0)
+    }
+
+    fn clear(&mut self) {
+        self.found.clear();
+        self.places.clear();
+    }
+
+    /// The others of a placing that was found, by their places on the link.
+    pub fn others_of(&self, placing: Placing) -> &[u16] {
+        places_of(&self.places, placing.others)
+    }
 
     // Of the frames of at most this end, the work behind each rank and when it's done.
     fn sum_up_rest(&mut self, heads: &[Standing], end: i64) {
         let mut rest = 0i64;
         let mut done = -FAR;
         let mut source = 0i64;
-        for (rank, own) in heads.iter().enumerate().rev() {
+        let mut rank = heads.len();
+        for _ in 0..heads.len() {
+            rank = rank.wrapping_sub(1);
+            let own = standing_at(heads, rank);
             if own.end <= end {
                 rest = sum(rest, own.work);
                 if sum(own.head, rest) >= done {
@@ -470,12 +447,7 @@ impl LinkSweep {
     }
 
     // Finds which frames of a greater end go last.
-    fn place_others(
-        &mut self,
-        heads: &[Standing],
-        sight: Sight,
-        found: &mut Vec<LastFrame>,
-    ) -> Result<(), AllocError> {
+    fn place_others(&mut self, heads: &[Standing], sight: Sight) -> Result<(), AllocError> {
         let mut latest = -FAR;
         let mut window = 0usize;
         for (rank, own) in heads.iter().enumerate() {
@@ -495,7 +467,7 @@ impl LinkSweep {
             }
             if at(&self.done, from) > own.head {
                 let placed = self.placing(heads, sight, own, from)?;
-                push(found, placed)?;
+                push(&mut self.found, placed)?;
             }
         }
         Ok(())
@@ -512,7 +484,8 @@ impl LinkSweep {
         let part = at(&self.source, from);
         let start = self.places.len();
         let mut idle: usize = 0;
-        for other in heads.iter().skip(from) {
+        for rank in from..heads.len() {
+            let other = standing_at(heads, rank);
             if other.end <= sight.end {
                 push(&mut self.places, short(other.place))?;
                 if other.head < part {
@@ -539,31 +512,6 @@ impl LinkSweep {
         Ok(LastFrame {
             placing,
             head: at(&self.done, from),
-        })
-    }
-
-    // The frames of at most this end that aren't done by it.
-    fn overload(&mut self, heads: &[Standing], sight: Sight) -> Result<Overload, AllocError> {
-        self.crowd.clear();
-        let mut work = 0i64;
-        let mut begin = 0i64;
-        for own in heads.iter().rev() {
-            if own.end > sight.end {
-                continue;
-            }
-            push(&mut self.crowd, short(own.place))?;
-            work = sum(work, own.work);
-            begin = own.head;
-            if sum(begin, work) > sight.end {
-                break;
-            }
-        }
-        Ok(Overload {
-            link: sight.link,
-            side: sight.side,
-            begin,
-            end: sight.end,
-            slack: less(less(sum(begin, work), sight.end), 1),
         })
     }
 }

@@ -1,6 +1,6 @@
 //! Closed chains of arcs: where one raises a bound again and again it's found, and not walked up to the end of the window.
-use crate::search::Search;
 use std::alloc::{AllocError, Global};
+use tsn_bounds::known::Known;
 use tsn_bounds::literal::Literal;
 use tsn_bounds::number::{item_at, less, push, put_item};
 use tsn_bounds::reason::{Deed, Why};
@@ -63,55 +63,58 @@ impl Rises {
         put_item(&mut self.list, bound, rise);
         rise.count % OFTEN == 0
     }
-}
 
-impl Search {
     /// Narrows a bound by the arc of a gap. False at a contradiction, which is noted as the clash.
-    pub fn raise_by_arc(&mut self, literal: Literal, gap: Literal) -> Result<bool, AllocError> {
-        if self.known.trail.is_true(literal) {
+    pub fn raise_by_arc(
+        &mut self,
+        known: &mut Known,
+        literal: Literal,
+        gap: Literal,
+    ) -> Result<bool, AllocError> {
+        if known.trail.is_true(literal) {
             return Ok(true);
         }
-        if !self.raise(literal, Why::Go(gap))? {
+        if !known.raise(literal, Why::Go(gap))? {
             return Ok(false);
         }
-        if self.rises.is_often(literal.place()) && self.find_chain(literal.bound)? {
-            self.note_round(literal.bound)?;
+        if self.is_often(literal.place()) && find_chain(&mut self.chain, known, literal.bound)? {
+            self.note_round(known, literal.bound)?;
             return Ok(false);
         }
         Ok(true)
     }
 
-    // Looks whether arcs lead from a bound back to it, by going back from its last change.
-    fn find_chain(&mut self, bound: u32) -> Result<bool, AllocError> {
-        self.rises.chain.clear();
-        let mut literal = Literal::of(bound, self.known.trail.value(bound));
-        for _ in 0..LONGEST {
-            let Some(number) = self.known.trail.event_of(literal) else {
-                return Ok(false);
-            };
-            let event = self.known.trail.event(number);
-            let Why::Go(gap) = event.why else {
-                return Ok(false);
-            };
-            push(&mut self.rises.chain, gap)?;
-            let arc = self.known.arc(gap, event.bound & 1 == 0);
-            if arc.from == bound {
-                return Ok(true);
-            }
-            literal = Literal::of(arc.from, less(event.new, arc.weight));
-        }
-        Ok(false)
-    }
-
     // The arcs of a closed chain can't all hold.
-    fn note_round(&mut self, bound: u32) -> Result<(), AllocError> {
+    fn note_round(&mut self, known: &mut Known, bound: u32) -> Result<(), AllocError> {
         if bound & 1 == 0 {
-            self.rises.chain.reverse();
+            self.chain.reverse();
         }
-        self.known.clash.clear();
-        self.known.clash.extend_from_slice(&self.rises.chain)?;
-        let round = self.known.record.keep_round(&self.rises.chain)?;
-        self.known.clash_deed = Some(Deed::Round(round));
+        known.clash.clear();
+        known.clash.extend_from_slice(&self.chain)?;
+        let round = known.record.keep_round(&self.chain)?;
+        known.clash_deed = Some(Deed::Round(round));
         Ok(())
     }
+}
+
+// Looks whether arcs lead from a bound back to it, by going back from its last change.
+fn find_chain(chain: &mut Vec<Literal>, known: &Known, bound: u32) -> Result<bool, AllocError> {
+    chain.clear();
+    let mut literal = Literal::of(bound, known.trail.value(bound));
+    for _ in 0..LONGEST {
+        let Some(number) = known.trail.event_of(literal) else {
+            return Ok(false);
+        };
+        let event = known.trail.event(number);
+        let Why::Go(gap) = event.why else {
+            return Ok(false);
+        };
+        push(chain, gap)?;
+        let arc = known.arc(gap, event.bound & 1 == 0);
+        if arc.from == bound {
+            return Ok(true);
+        }
+        literal = Literal::of(arc.from, less(event.new, arc.weight));
+    }
+    Ok(false)
 }

@@ -1,4 +1,4 @@
-use Rattle.tsn_solver.proofs.search.Search.+is_implied.Given as goal
+use Rattle.tsn_solver.proofs.analysis.Analysis.+is_implied.Given as goal
 
 -- it looks less deep each time
 abbrev pub decreases-is_implied : goal.decreases-is_implied
