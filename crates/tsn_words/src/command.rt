@@ -1,11 +1,12 @@
 //! The words as `clap` reads them by the table of commands.
-ghost use Rattle.std.specs.Prelude.{◌≡◌, ◌≢◌, All, IfErr, IfOk, false, map, true};
+ghost use Rattle.std.specs.Prelude.{◌≡◌, ◌≢◌, IfErr, IfOk, false, map, true};
 ghost use Rattle.std.specs.List.{fold};
-ghost use Rattle.clap.specs.Words.{app_of, kind_of, rule_of, subcommand_rows_of};
+ghost use Rattle.clap.specs.Words.{app_of, kind_of, new_rule, rule_of, subcommand_rows_of, with_rule};
 ghost use Rattle.clap.specs.declared.builder.command.Command.TheViews.{out-Command as fields_of};
 ghost use Rattle.tsn_words.specs.Grammar.{AsksFor, IsRefused, IsWhole, takes_words};
 ghost use Rattle.tsn_words.specs.Grammar as grammar;
-ghost use Rattle.tsn_words.specs.Table.{IsReadOf, app_by, rule_by, with_form};
+ghost use Rattle.tsn_words.specs.Table.{IsReadOf, app_by, rule_by, rule_for, with_form};
+ghost use Rattle.tsn_words.specs.declared.table.Takes.TheVariants as takes;
 
 use crate::table::{Argument, Form, Takes};
 use crate::words::{FORMS, VERSION, Words, WordsFault};
@@ -89,44 +90,80 @@ fn command_by<'a>(alloc: Global, form: Form) -> Result<Command<'a>, AllocError>
     ensures app { IfOk result (λ c. app_of c ≡ app_by form) }
     ensures local { IfOk result (λ c. (fields_of c).has_globals ≡ false) }
 {
-    let arguments = arguments_by(alloc, form.arguments)?;
-    Command::new(alloc, form.name)
-        .about(form.about)
-        .args(arguments)
+    let alone = Command::new(alloc, form.name).about(form.about);
+    with_arguments(alloc, alone, form.arguments)
 }
 
-fn arguments_by<'a>(alloc: Global, rows: &[Argument]) -> Result<Vec<Arg<'a>>, AllocError>
-    ensures rules { IfOk result (λ arguments. map rule_of arguments.items ≡ map rule_by rows.now) }
-    ensures local { IfOk result (λ arguments. All (λ a. a.global ≡ false) arguments.items) }
+// A command with some arguments more.
+fn with_arguments<'a>(
+    alloc: Global,
+    command: Command<'a>,
+    rows: &[Argument],
+) -> Result<Command<'a>, AllocError>
+    requires local { (fields_of command).has_globals ≡ false }
+    ensures app { IfOk result (λ c. app_of c ≡ fold with_rule (app_of command.entry) (map rule_by rows.now)) }
+    ensures local { IfOk result (λ c. (fields_of c).has_globals ≡ false) }
 {
-    let mut arguments = Vec::new(alloc);
+    let mut command = command;
     for row in rows {
-        arguments.push(argument_by(alloc, *row))?;
+        command = command.arg(argument_by(alloc, *row))?;
     }
-    Ok(arguments)
+    Ok(command)
 }
 
 fn argument_by<'a>(alloc: Global, row: Argument) -> Arg<'a>
     ensures rule { rule_of result ≡ rule_by row }
     ensures local { result.global ≡ false }
 {
-    let Argument { name, takes, help } = row;
-    let argument = Arg::new(alloc, name).help(help);
-    match takes {
-        Takes::File => argument.required(true).action(ArgAction::Set),
-        Takes::Numbers(most) => argument
-            .required(true)
-            .action(ArgAction::Append)
-            .num_args(1..)
-            .value_parser(ValueParser::unsigned(0, most)),
-        Takes::Number(least, most, range) => argument
-            .long(name)
-            .value_name(range)
-            .action(ArgAction::Set)
-            .value_parser(ValueParser::unsigned(least, most)),
-        Takes::Word(word) => argument.long(name).value_name(word).action(ArgAction::Set),
-        Takes::Nothing => argument.long(name).action(ArgAction::SetTrue),
+    match row.takes {
+        Takes::File => file(alloc, row),
+        Takes::Numbers(most) => numbers(alloc, row, most),
+        Takes::Number(least, most, range) => number(alloc, row, least, most, range),
+        Takes::Word(word) => option(alloc, row, word),
+        Takes::Nothing => named(alloc, row).long(row.name).action(ArgAction::SetTrue),
     }
+}
+
+fn file<'a>(alloc: Global, row: Argument) -> Arg<'a>
+    ensures rule { rule_of result ≡ rule_for row.name.now takes.File }
+    ensures local { result.global ≡ false }
+{
+    named(alloc, row).required(true).action(ArgAction::Set)
+}
+
+fn numbers<'a>(alloc: Global, row: Argument, most: u64) -> Arg<'a>
+    ensures rule { rule_of result ≡ rule_for row.name.now (takes.Numbers most) }
+    ensures local { result.global ≡ false }
+{
+    named(alloc, row)
+        .required(true)
+        .action(ArgAction::Append)
+        .num_args(1..)
+        .value_parser(ValueParser::unsigned(0, most))
+}
+
+fn number<'a>(alloc: Global, row: Argument, least: u64, most: u64, range: &'static str) -> Arg<'a>
+    ensures rule { rule_of result ≡ rule_for row.name.now (takes.Number least most range.entry) }
+    ensures local { result.global ≡ false }
+{
+    option(alloc, row, range).value_parser(ValueParser::unsigned(least, most))
+}
+
+fn option<'a>(alloc: Global, row: Argument, value: &'static str) -> Arg<'a>
+    ensures rule { rule_of result ≡ rule_for row.name.now (takes.Word value.entry) }
+    ensures local { result.global ≡ false }
+{
+    named(alloc, row)
+        .long(row.name)
+        .value_name(value)
+        .action(ArgAction::Set)
+}
+
+fn named<'a>(alloc: Global, row: Argument) -> Arg<'a>
+    ensures rule { rule_of result ≡ new_rule row.name.now }
+    ensures local { result.global ≡ false }
+{
+    Arg::new(alloc, row.name).help(row.help)
 }
 
 // Why `clap` refuses the words.
