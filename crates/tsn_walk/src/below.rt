@@ -16,6 +16,7 @@ ghost use Rattle.tsn_walk.specs.Below.{StandsAt, IsBelow, IsBatch, IsProved, Hol
 use crate::bag::Bag;
 use crate::best::SeenBest;
 use std::alloc::Global;
+use std::mem;
 use tsn_book::{Book, Looks};
 use tsn_branch::{Aim, Descent, Tables, fits};
 use tsn_conflict::sharing::Conflicts;
@@ -139,15 +140,31 @@ impl Below {
             let _ = bag.push(right);
             return Ok(());
         }
-        let Ok(found) = Below::at(alloc, tables.timing, tables.conflicts, right) else {
-            return Err(NoMemory);
-        };
-        let Some(below) = found else {
-            return Ok(());
-        };
-        let _ = bag.push(self.from.copy()?);
-        *self = below;
-        Ok(())
+        match Below::at(alloc, tables.timing, tables.conflicts, right) {
+            Ok(Some(below)) => {
+                let _ = bag.push(self.cross(below));
+                Ok(())
+            }
+            Ok(None) => Ok(()),
+            Err(node) => {
+                drop(node);
+                Err(NoMemory)
+            }
+        }
+    }
+
+    // Goes on as another walk. The node where it stood comes back.
+    fn cross(&mut self, other: Below) -> Node
+        ensures { self.new ≡ other }
+    {
+        let Below {
+            descent,
+            from,
+            floor: _,
+            untied: _,
+        } = mem::replace(self, other);
+        drop(descent);
+        from
     }
 
     /// Whether so many nodes or more are open.

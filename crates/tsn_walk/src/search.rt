@@ -1,5 +1,5 @@
 //! The search in a book of one's own: an open node is taken, and all that is open below it is settled, again and again.
-ghost use Rattle.std.specs.Prelude.{◌≡◌, ◌<◌, ◌≤◌, ◌+◌, ◌⊎◌, true, [], length, Contains, IfOk, OnOk, MatchBool};
+ghost use Rattle.std.specs.Prelude.{◌≡◌, ◌<◌, ◌≤◌, ◌+◌, ◌⊎◌, true, [], length, Contains, IfOk, IfSome, OnOk, MatchBool};
 ghost use Rattle.tsn_model.specs.Search.{open_paths};
 ghost use Rattle.tsn_node.specs.Outcome.{outcome_of};
 ghost use Rattle.tsn_node.specs.Right.{HasProof, SplitsUndecided};
@@ -96,27 +96,58 @@ fn dive<S: Supervisor>(
     ensures further { IsFurther course.now.teller book.old book.new }
 {
     let setting = course.setting;
-    let tables = setting.tables;
-    let node = node_along(setting.alloc, tables.conflicts, book, known)?;
-    let mut below = match Below::at(setting.alloc, tables.timing, tables.conflicts, node) {
-        Ok(Some(below)) => below,
-        Ok(None) => return Ok(()),
+    let node = node_along(setting.alloc, setting.tables.conflicts, book, known)?;
+    let Some(mut below) = below_at(course, node)? else {
+        return Ok(());
+    };
+    let gone = dive_on(course, book, known, &mut below, others);
+    drop(below);
+    gone
+}
+
+// What is open below a node, where it is one of the network's.
+fn below_at<S: Supervisor>(course: &Course<'_, S>, node: Node) -> Result<Option<Below>, NoMemory>
+    ensures { IfOk result (λ found. IfSome found (IsBelow course.now.setting.now.tables.timing.now course.now.setting.now.tables.conflicts.now.triples)) }
+{
+    let setting = course.setting;
+    match Below::at(
+        setting.alloc,
+        setting.tables.timing,
+        setting.tables.conflicts,
+        node,
+    ) {
+        Ok(found) => Ok(found),
         Err(node) => {
             drop(node);
-            return Err(NoMemory);
+            Err(NoMemory)
         }
-    };
+    }
+}
+
+// Settles the nodes of a walk down, at each to the side that the schedule keeps to.
+#[tactic(auto, using(crate::proofs::Further::stays, crate::proofs::Further::goes_on))]
+fn dive_on<S: Supervisor>(
+    course: &Course<'_, S>,
+    book: &mut Book,
+    known: &[u64],
+    below: &mut Below,
+    others: &mut OpenNodes,
+) -> Result<(), NoMemory>
+    requires search { IsSearchBy course.now.setting.now.tables course.now.teller course.now.until book.old }
+    requires below { IsBelow course.now.setting.now.tables.timing.now course.now.setting.now.tables.conflicts.now.triples below.old }
+    ensures further { IsFurther course.now.teller book.old book.new }
+{
+    let setting = course.setting;
     for _ in 0..u64::MAX {
         let depth = below.from.path().len();
-        if !settle_batch(course, book, &mut below, 1)? {
+        if !settle_batch(course, book, below, 1)? {
             break;
         }
         if below.from.path().len() <= depth {
             break;
         }
-        below.choose_side(setting.alloc, tables, known, others)?;
+        below.choose_side(setting.alloc, setting.tables, known, others)?;
     }
-    drop(below);
     Ok(())
 }
 
@@ -172,22 +203,30 @@ fn settle_under<S: Supervisor>(
     requires search { IsSearchBy course.now.setting.now.tables course.now.teller course.now.until book.old }
     ensures further { IsFurther course.now.teller book.old book.new }
 {
-    let setting = course.setting;
-    let tables = setting.tables;
-    let mut below = match Below::at(setting.alloc, tables.timing, tables.conflicts, node) {
-        Ok(Some(below)) => below,
-        Ok(None) => return Ok(()),
-        Err(node) => {
-            drop(node);
-            return Err(NoMemory);
-        }
+    let Some(mut below) = below_at(course, node)? else {
+        return Ok(());
     };
+    let settled = settle_on(course, book, &mut below);
+    drop(below);
+    settled
+}
+
+// Settles the nodes of a walk, until so many are settled.
+#[tactic(auto, using(crate::proofs::Further::stays, crate::proofs::Further::goes_on))]
+fn settle_on<S: Supervisor>(
+    course: &Course<'_, S>,
+    book: &mut Book,
+    below: &mut Below,
+) -> Result<(), NoMemory>
+    requires search { IsSearchBy course.now.setting.now.tables course.now.teller course.now.until book.old }
+    requires below { IsBelow course.now.setting.now.tables.timing.now course.now.setting.now.tables.conflicts.now.triples below.old }
+    ensures further { IsFurther course.now.teller book.old book.new }
+{
     for _ in 0..u64::MAX {
-        if !settle_batch(course, book, &mut below, BATCH)? {
+        if !settle_batch(course, book, below, BATCH)? {
             break;
         }
     }
-    drop(below);
     Ok(())
 }
 

@@ -1,6 +1,6 @@
 use Rattle.tsn_walk.specs.Search.{IsFurther}
 use Rattle.tsn_walk.specs.Below.{IsBelow}
-use Rattle.tsn_walk.proofs.search.settle_under.Given as goal
+use Rattle.tsn_walk.proofs.search.dive_on.Given as goal
 
 abbrev pub invariant-loop : goal.invariant-loop
 invariant-loop g l = record {
