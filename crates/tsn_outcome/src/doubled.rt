@@ -15,32 +15,90 @@ struct Named<'a> {
     path: &'a str,
 }
 
-/// Why the words are refused, where they name a file twice.
+// What is read: the network's file, and that of the plan to prove, if there is one.
+#[derive(Clone, Copy)]
+struct Inputs<'a> {
+    network: &'a str,
+    plan: Option<&'a str>,
+}
+
+/// Why the words are refused, where they name a file twice: the plan and the certificate that are written have to differ, and each of
+/// these from what is read and from where standard output goes.
 pub fn doubled_in<R: Files>(
     rt: &R,
     alloc: Global,
     words: &Words<'_>,
 ) -> Result<Option<String>, AllocError> {
-    let pairs = match words {
-        Words::Plan(words) => pairs(alloc, words.network, None, words.plan, words.cert),
+    match words {
+        Words::Plan(words) => {
+            let inputs = Inputs {
+                network: words.network,
+                plan: None,
+            };
+            doubled_among(rt, alloc, inputs, words.plan, words.cert)
+        }
         Words::Prove(words) => {
-            pairs(
-                alloc,
-                words.network,
-                Some(words.given),
-                words.plan,
-                words.cert,
-            )
+            let inputs = Inputs {
+                network: words.network,
+                plan: Some(words.given),
+            };
+            doubled_among(rt, alloc, inputs, words.plan, words.cert)
         }
-        _ => return Ok(None),
-    };
-    for (left, right) in pairs? {
-        if are_one_file(rt, alloc, left.path, right.path)? {
-            let text = refusal(alloc, left, right)?;
-            return Ok(Some(text));
-        }
+        _ => Ok(None),
     }
-    Ok(None)
+}
+
+fn doubled_among<R: Files>(
+    rt: &R,
+    alloc: Global,
+    inputs: Inputs<'_>,
+    plan: Option<&str>,
+    cert: Option<&str>,
+) -> Result<Option<String>, AllocError> {
+    let plan = file_if_any("--plan ", plan);
+    let cert = file_if_any("--cert ", cert);
+    if let Some(text) = doubled_pair(rt, alloc, plan, cert)? {
+        return Ok(Some(text));
+    }
+    if let Some(text) = doubled_beside(rt, alloc, inputs, plan)? {
+        return Ok(Some(text));
+    }
+    doubled_beside(rt, alloc, inputs, cert)
+}
+
+// Why a file that is written is refused beside what is read and standard output.
+fn doubled_beside<R: Files>(
+    rt: &R,
+    alloc: Global,
+    inputs: Inputs<'_>,
+    file: Option<Named<'_>>,
+) -> Result<Option<String>, AllocError> {
+    let network = Some(network_file(inputs.network));
+    if let Some(text) = doubled_pair(rt, alloc, network, file)? {
+        return Ok(Some(text));
+    }
+    let plan = file_if_any("", inputs.plan);
+    if let Some(text) = doubled_pair(rt, alloc, plan, file)? {
+        return Ok(Some(text));
+    }
+    doubled_pair(rt, alloc, file, Some(STANDARD_OUTPUT))
+}
+
+// Why two files are refused, where both are named and are one.
+fn doubled_pair<R: Files>(
+    rt: &R,
+    alloc: Global,
+    left: Option<Named<'_>>,
+    right: Option<Named<'_>>,
+) -> Result<Option<String>, AllocError> {
+    let (Some(left), Some(right)) = (left, right) else {
+        return Ok(None);
+    };
+    if !are_one_file(rt, alloc, left.path, right.path)? {
+        return Ok(None);
+    }
+    let text = refusal(alloc, left, right)?;
+    Ok(Some(text))
 }
 
 fn refusal(alloc: Global, left: Named<'_>, right: Named<'_>) -> Result<String, AllocError> {
@@ -58,40 +116,28 @@ fn push_file(text: &mut TextBuilder, words: &str, file: Named<'_>) {
     text.push_str(file.word);
 }
 
-// The files that have to differ: the plan and the certificate that are written, and each of these from what is read and from where
-// standard output goes.
-fn pairs<'a>(
-    alloc: Global,
-    network: &'a str,
-    given: Option<&'a str>,
-    plan: Option<&'a str>,
-    cert: Option<&'a str>,
-) -> Result<Vec<(Named<'a>, Named<'a>)>, AllocError> {
-    let mut pairs = Vec::new(alloc);
-    if let (Some(plan), Some(cert)) = (plan, cert) {
-        pairs.push((
-            file_of("--plan ", plan, plan),
-            file_of("--cert ", cert, cert),
-        ))?;
+const STANDARD_OUTPUT: Named<'static> = Named {
+    option: "",
+    word: "standard output",
+    path: "/dev/stdout",
+};
+
+fn network_file(word: &str) -> Named<'_> {
+    Named {
+        option: "",
+        word,
+        path: if word == "-" { "/dev/stdin" } else { word },
     }
-    for (option, word) in [("--plan ", plan), ("--cert ", cert)] {
-        if let Some(word) = word {
-            let file = file_of(option, word, word);
-            let input = if network == "-" {
-                "/dev/stdin"
-            } else {
-                network
-            };
-            pairs.push((file_of("", network, input), file))?;
-            if let Some(given) = given {
-                pairs.push((file_of("", given, given), file))?;
-            }
-            pairs.push((file, file_of("", "standard output", "/dev/stdout")))?;
-        }
-    }
-    Ok(pairs)
 }
 
-fn file_of<'a>(option: &'static str, word: &'a str, path: &'a str) -> Named<'a> {
-    Named { option, word, path }
+// The file that a word names, behind an option where it has one.
+fn file_if_any<'a>(option: &'static str, word: Option<&'a str>) -> Option<Named<'a>> {
+    match word {
+        Some(path) => Some(Named {
+            option,
+            word: path,
+            path,
+        }),
+        None => None,
+    }
 }
