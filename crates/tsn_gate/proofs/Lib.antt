@@ -16,3 +16,4 @@ pub mod Sparing
 pub mod SingleFrames
 pub mod SmallGates
 pub mod Exchanges
+pub mod More
