@@ -31,3 +31,4 @@ pub mod Progress
 pub mod PassageStarts
 pub mod BackgroundStarts
 pub mod SmallRuns
+pub mod More
