@@ -9,6 +9,10 @@ use Rattle.toml.specs.declared.value.Value.{Value}
 use Rattle.tsn_net.specs.Document.{texts_of}
 use Rattle.tsn_net.specs.DocumentView.{routes_view}
 
+-- the names of a route
+abbrev pub route_in : Value → List (List ℕ)
+route_in v = texts_of (view v)
+
 -- the routes from the i-th on
 pub routes-drop : (vs : List Value) (i : ℕ) (v : Value) → i < length vs → v ≡ get_or vs i v
     → routes_view (drop i vs) ≡ texts_of (view v) ∷ routes_view (drop (i + 1) vs)

@@ -101,10 +101,13 @@ fn unknown_in<'a>(document: &Document<'_>, names: &'a [Value]) -> Option<&'a str
     ensures first { option_map (λ name. name.now) result ≡ find (λ n. not (has_name (map view document.now.nodes.now) n)) (texts_view names.now) }
     ensures found { is_some result ≡ not (list_all (has_name (map view document.now.nodes.now)) (texts_view names.now)) }
 {
-    match names.iter().find(|value| !has_name(document, text(value))) {
-        Some(value) => Some(text(value)),
-        None => None,
+    for value in names {
+        let name = text(value);
+        if !has_name(document, name) {
+            return Some(name);
+        }
     }
+    None
 }
 
 // The first name along some routes that none of the nodes has.

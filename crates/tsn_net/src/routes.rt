@@ -147,20 +147,25 @@ fn no_bridge_in<'a>(document: &Document<'_>, names: &'a [Value]) -> Option<&'a s
     ensures first { option_map (λ name. name.now) result ≡ find (λ n. not (names_bridge (map view document.now.nodes.now) n)) (texts_view names.now) }
     ensures found { is_some result ≡ not (list_all (names_bridge (map view document.now.nodes.now)) (texts_view names.now)) }
 {
-    match names
-        .iter()
-        .find(|value| !names_bridge(document, text(value)))
-    {
-        Some(value) => Some(text(value)),
-        None => None,
+    for value in names {
+        let name = text(value);
+        if !names_bridge(document, name) {
+            return Some(name);
+        }
     }
+    None
 }
 
 // The number of the first of the texts that is this one.
 fn number_of_text(texts: &[Value], wanted: &str) -> Option<usize>
     ensures { result ≡ position (bytes_eq wanted.now) (texts_view texts.now) }
 {
-    texts.iter().position(|value| wanted == text(value))
+    for k in 0..texts.len() {
+        if wanted == text(&texts[k]) {
+            return Some(k);
+        }
+    }
+    None
 }
 
 // What is the matter with a route that doesn't run from a station over bridges to a station, or has a node twice.

@@ -1,6 +1,7 @@
 //! The steps of routes, from each node that they name to the next, and what several routes have to be together.
-ghost use Rattle.std.specs.Prelude.{◌≡◌, ◌≤◌, fold, length, map, option_map};
+ghost use Rattle.std.specs.Prelude.{◌≡◌, ◌≤◌, ◌&&◌, fold, length, map, option_map};
 ghost use Rattle.std.specs.List.{list_any, find};
+ghost use Rattle.std.specs.Str.{bytes_eq};
 ghost use Rattle.toml.specs.View.{view};
 ghost use Rattle.tsn_net.specs.Document.{texts_of};
 ghost use Rattle.tsn_net.specs.DocumentView.{texts_view, routes_view, step_view, steps_view, few_view, entry_view};
@@ -29,13 +30,23 @@ pub(crate) struct Entry<'a> {
     pub(crate) other: &'a str,
 }
 
+// Whether a step is the same as another one.
+fn are_same(other: Step<'_>, step: Step<'_>) -> bool
+    ensures { result ≡ (bytes_eq other.entry.from.now step.entry.from.now && bytes_eq other.entry.to.now step.entry.to.now) }
+{
+    other.from == step.from && other.to == step.to
+}
+
 // Whether the step is one of some.
 fn is_among(steps: &[Step<'_>], step: Step<'_>) -> bool
     ensures { result ≡ is_step (step_view step.entry) (steps_view steps.now) }
 {
-    steps
-        .iter()
-        .any(|other| other.from == step.from && other.to == step.to)
+    for other in steps {
+        if are_same(*other, step) {
+            return true;
+        }
+    }
+    false
 }
 
 // Some steps, and behind them those of a route that aren't among them; None where they are too many.
@@ -94,23 +105,32 @@ pub(crate) fn other_talker(routes: &[Value]) -> Option<&str>
     ensures { option_map (λ name. name.now) result ≡ other_talker (routes_view routes.now) }
 {
     let talker = talker_of(routes);
-    match routes.iter().find(|route| begin_of(route) != talker) {
-        Some(route) => Some(begin_of(route)),
-        None => None,
+    for route in routes {
+        let begin = begin_of(route);
+        if begin != talker {
+            return Some(begin);
+        }
     }
+    None
+}
+
+// Whether a step leads to the same node as another one, and begins elsewhere.
+fn meets(other: Step<'_>, step: Step<'_>) -> bool
+    ensures { result ≡ meet (step_view step.entry) (step_view other.entry) }
+{
+    other.to == step.to && other.from != step.from
 }
 
 // The first node from which one of the steps leads to the same node as a step that begins elsewhere.
 fn other_way<'a>(steps: &[Step<'a>], step: Step<'_>) -> Option<&'a str>
     ensures { option_map (λ name. name.now) result ≡ option_map (λ q. q.0) (find (meet (step_view step.entry)) (steps_view steps.now)) }
 {
-    match steps
-        .iter()
-        .find(|other| other.to == step.to && other.from != step.from)
-    {
-        Some(other) => Some(other.from),
-        None => None,
+    for other in steps {
+        if meets(*other, step) {
+            return Some(other.from);
+        }
     }
+    None
 }
 
 // The first bridge to which two of the steps lead from different nodes.
@@ -174,5 +194,10 @@ pub(crate) fn given_again(routes: &[Value]) -> Option<&[Value]>
 fn stands_in(names: &[Value], routes: &[Value]) -> bool
     ensures { result ≡ list_any (is_same (texts_view names.now)) (routes_view routes.now) }
 {
-    routes.iter().any(|route| is_same(names, texts_of(route)))
+    for route in routes {
+        if is_same(names, texts_of(route)) {
+            return true;
+        }
+    }
+    false
 }

@@ -344,15 +344,23 @@ pub(crate) fn is_name(text: &str) -> bool
 fn are_name_bytes(bytes: &[u8]) -> bool
     ensures { result ≡ list_all is_name_byte bytes.now }
 {
-    bytes.iter().all(|byte| is_name_byte(*byte))
+    for byte in bytes {
+        if !is_name_byte(*byte) {
+            return false;
+        }
+    }
+    true
 }
 
 fn no_name_in(texts: &[Value]) -> Option<&str>
     ensures first { option_map (λ text. text.now) result ≡ find (λ t. not (is_name t)) (texts_view texts.now) }
     ensures found { is_some result ≡ not (list_all is_name (texts_view texts.now)) }
 {
-    match texts.iter().find(|value| !is_name(text(value))) {
-        Some(value) => Some(text(value)),
-        None => None,
+    for value in texts {
+        let name = text(value);
+        if !is_name(name) {
+            return Some(name);
+        }
     }
+    None
 }

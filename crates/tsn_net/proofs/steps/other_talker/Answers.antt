@@ -1,32 +1,42 @@
-use Rattle.std.proofs.Common.{◌≡◌, ℕ, List, Bool, not, Some, None, option_map, ap, sym, ◌∙◌, rules, tests}
+use Rattle.std.proofs.Common.{◌≡◌, ℕ, Bool, List, Option, not, true, false, Some, option_map, sym, ap, ◌∙◌}
 use Rattle.std.specs.List.{find}
 use Rattle.std.specs.Str.{bytes_eq}
-use Rattle.std.proofs.lemmas.Iterator.{YieldsList-from_slice}
-use Rattle.std.proofs.lemmas.Iterator.Search.{find_from_yields_List}
 use Rattle.toml.specs.View.{view}
-use Rattle.toml.specs.declared.value.Value.{Value}
 use Rattle.tsn_net.specs.Document.{texts_of}
 use Rattle.tsn_net.specs.DocumentView.{routes_view}
 use Rattle.tsn_net.specs.Conditions.{begin_of}
-use Rattle.tsn_net.proofs.MatterLemmas.{find-map}
+use Rattle.tsn_net.proofs.Along.{routes-drop, routes-past}
+use Rattle.tsn_net.proofs.Rest.{find_here, find_later}
 use Rattle.tsn_net.proofs.steps.other_talker.Goals as goal
 
-pub returns-in-Some : goal.returns-in-Some
-returns-in-Some c =
-    let talker = c.talker_of-talker.result.now in
-    let test : List ℕ → List (List ℕ) → Bool = λ t route. not (bytes_eq (begin_of route) t) in
-    let found = find_from_yields_List (λ (v : Value). test talker (texts_of (view v))) _ _ _ c.find.ensures.ran (YieldsList-from_slice c.args.routes.now cc)
-    (λ x b q k. search (rules, tests)) in
-    let at : option_map begin_of (find (test talker) (routes_view c.args.routes.now)) ≡ Some c.begin_of.result.now =
-    rw (find-map (test talker) (λ (v : Value). texts_of (view v)) c.args.routes.now, ← found, c.in-Some.is, c.begin_of.ensures) in
-    sym (ap (λ t. option_map begin_of (find (test t) (routes_view c.args.routes.now))) (sym c.talker_of-talker.ensures) ∙ at)
+abbrev elsewhere : List ℕ → List (List ℕ) → Bool
+elsewhere talker route = not (bytes_eq (begin_of route) talker)
 
-pub returns-in-None : goal.returns-in-None
-returns-in-None c =
+-- where the first route begins that begins elsewhere than at a talker
+abbrev begins : List (List (List ℕ)) → List ℕ → Option (List ℕ)
+begins routes talker = option_map begin_of (find (elsewhere talker) routes)
+
+pub returns-then-ne : goal.returns-then-ne
+returns-then-ne c =
     let talker = c.talker_of-talker.result.now in
-    let test : List ℕ → List (List ℕ) → Bool = λ t route. not (bytes_eq (begin_of route) t) in
-    let found = find_from_yields_List (λ (v : Value). test talker (texts_of (view v))) _ _ _ c.find.ensures.ran (YieldsList-from_slice c.args.routes.now cc)
-    (λ x b q k. search (rules, tests)) in
-    let at : option_map begin_of (find (test talker) (routes_view c.args.routes.now)) ≡ None =
-    rw (find-map (test talker) (λ (v : Value). texts_of (view v)) c.args.routes.now, ← found, c.in-None.is) in
-    sym (ap (λ t. option_map begin_of (find (test t) (routes_view c.args.routes.now))) (sym c.talker_of-talker.ensures) ∙ at)
+    let routes = routes_view c.args.routes.now in
+    let names = texts_of (view c.route-item.result) in
+    let next = routes-drop c.args.routes.now c.loop-route.route-index c.route-item.result c.loop-route-test.true c.route-item.is in
+    let differs : elsewhere talker names ≡ true = ap (λ b. not (bytes_eq b talker)) (sym c.begin_of-begin.ensures) ∙ sym c.ne.ensures ∙ c.if-ne.true in
+    ap Some c.begin_of-begin.ensures ∙ ap (option_map begin_of) (find_here (elsewhere talker) _ _ names next _ differs c.loop-route.invariant)
+    ∙ ap (begins routes) c.talker_of-talker.ensures
+
+pub loop-route-preserved : goal.loop-route-preserved
+loop-route-preserved c =
+    let talker = c.talker_of-talker.result.now in
+    let names = texts_of (view c.route-item.result) in
+    let next = routes-drop c.args.routes.now c.loop-route.route-index c.route-item.result c.loop-route-test.true c.route-item.is in
+    let same : elsewhere talker names ≡ false = ap (λ b. not (bytes_eq b talker)) (sym c.begin_of-begin.ensures) ∙ sym c.ne.ensures ∙ c.if-ne.false in
+    find_later (elsewhere talker) _ _ names next _ same c.loop-route.invariant
+
+pub returns : goal.returns
+returns c =
+    let talker = c.talker_of-talker.result.now in
+    ap (option_map begin_of)
+    (sym (ap (find (elsewhere talker)) (routes-past c.args.routes.now c.loop-route.route-index c.loop-route-test.false)) ∙ c.loop-route.invariant)
+    ∙ ap (begins (routes_view c.args.routes.now)) c.talker_of-talker.ensures

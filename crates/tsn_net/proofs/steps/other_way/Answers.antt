@@ -1,22 +1,23 @@
-use Rattle.std.proofs.Common.{ℕ, List, Bool, not, ◌&&◌, rules, tests}
-use Rattle.std.specs.Str.{bytes_eq}
-use Rattle.std.proofs.lemmas.Iterator.{YieldsList-from_slice}
-use Rattle.std.proofs.lemmas.Iterator.Search.{find_from_yields_List}
-use Rattle.tsn_net.specs.declared.steps.Step.{Step}
+use Rattle.std.proofs.Common.{ℕ, List, option_map, sym, ap, ◌∙◌}
+use Rattle.std.specs.List.{find}
 use Rattle.tsn_net.specs.DocumentView.{step_view}
-use Rattle.tsn_net.proofs.MatterLemmas.{find-map}
+use Rattle.tsn_net.specs.Conditions.{meet}
+use Rattle.tsn_net.proofs.Rest.{rest_at, rest_none, find_here, find_later}
 use Rattle.tsn_net.proofs.steps.other_way.Goals as goal
 
-pub returns-in-Some : goal.returns-in-Some
-returns-in-Some c =
-    let test : List ℕ × List ℕ → Bool = λ q. bytes_eq q.1 c.args.step.to.now && not (bytes_eq q.0 c.args.step.from.now) in
-    let found = find_from_yields_List (λ (s : Step). test (step_view s)) _ _ _ c.find.ensures.ran (YieldsList-from_slice c.args.steps.now cc)
-    (λ x b q k. search (rules, tests)) in
-    rw (find-map test step_view c.args.steps.now, ← found, c.in-Some.is)
+pub returns-then-meets : goal.returns-then-meets
+returns-then-meets c =
+    ap (option_map (λ (q : List ℕ × List ℕ). q.0))
+    (find_here (meet (step_view c.args.step)) _ _ _ (rest_at step_view c.args.steps.now c.loop-other.other-index _ c.loop-other-test.true) _
+    (sym c.meets.ensures ∙ c.if-meets.true) c.loop-other.invariant)
 
-pub returns-in-None : goal.returns-in-None
-returns-in-None c =
-    let test : List ℕ × List ℕ → Bool = λ q. bytes_eq q.1 c.args.step.to.now && not (bytes_eq q.0 c.args.step.from.now) in
-    let found = find_from_yields_List (λ (s : Step). test (step_view s)) _ _ _ c.find.ensures.ran (YieldsList-from_slice c.args.steps.now cc)
-    (λ x b q k. search (rules, tests)) in
-    rw (find-map test step_view c.args.steps.now, ← found, c.in-None.is)
+pub loop-other-preserved : goal.loop-other-preserved
+loop-other-preserved c =
+    find_later (meet (step_view c.args.step)) _ _ _ (rest_at step_view c.args.steps.now c.loop-other.other-index _ c.loop-other-test.true) _
+    (sym c.meets.ensures ∙ c.if-meets.false) c.loop-other.invariant
+
+pub returns : goal.returns
+returns c =
+    ap (option_map (λ (q : List ℕ × List ℕ). q.0))
+    (sym (ap (find (meet (step_view c.args.step)))
+    (rest_none step_view c.args.steps.now c.loop-other.other-index c.loop-other-test.false)) ∙ c.loop-other.invariant)

@@ -1,17 +1,26 @@
-use Rattle.std.proofs.Common.{ℕ, List, sym, ◌∙◌, rules, tests}
-use Rattle.std.proofs.lemmas.Iterator.{YieldsList-from_slice}
-use Rattle.std.proofs.lemmas.Iterator.Search.{any_from_yields_List}
-use Rattle.toml.specs.View.{view}
-use Rattle.toml.specs.declared.value.Value.{Value}
-use Rattle.tsn_net.specs.Document.{texts_of}
+use Rattle.std.proofs.Common.{sym, ap, ◌∙◌}
+use Rattle.std.specs.List.{list_any}
 use Rattle.tsn_net.specs.DocumentView.{texts_view}
 use Rattle.tsn_net.specs.Conditions.{is_same}
-use Rattle.tsn_net.proofs.DocumentLemmas.{list_any-map}
+use Rattle.tsn_net.proofs.Along.{route_in, routes-past}
+use Rattle.tsn_net.proofs.Rest.{rest_seen, any_here, any_later}
 use Rattle.tsn_net.proofs.steps.stands_in.Goals as goal
+
+pub returns-then-is_same : goal.returns-then-is_same
+returns-then-is_same c =
+    let names = texts_view c.texts_of.result.now in
+    let next = rest_seen route_in c.args.routes.now c.loop-route.route-index c.route-item.result names c.loop-route-test.true c.route-item.is
+    c.texts_of.ensures in
+    any_here (is_same (texts_view c.args.names.now)) _ _ names next _ (sym c.is_same.ensures ∙ c.if-is_same.true) c.loop-route.invariant
+
+pub loop-route-preserved : goal.loop-route-preserved
+loop-route-preserved c =
+    let names = texts_view c.texts_of.result.now in
+    let next = rest_seen route_in c.args.routes.now c.loop-route.route-index c.route-item.result names c.loop-route-test.true c.route-item.is
+    c.texts_of.ensures in
+    any_later (is_same (texts_view c.args.names.now)) _ _ names next _ (sym c.is_same.ensures ∙ c.if-is_same.false) c.loop-route.invariant
 
 pub returns : goal.returns
 returns c =
-    let test = λ (r : List (List ℕ)). is_same (texts_view c.args.names.now) r in
-    any_from_yields_List (λ (v : Value). test (texts_of (view v))) _ _ _ c.any.ensures.ran (YieldsList-from_slice c.args.routes.now cc)
-    (λ x b q k. search (rules, tests))
-    ∙ sym (list_any-map test (λ (v : Value). texts_of (view v)) c.args.routes.now)
+    sym (ap (list_any (is_same (texts_view c.args.names.now))) (routes-past c.args.routes.now c.loop-route.route-index c.loop-route-test.false))
+    ∙ c.loop-route.invariant

@@ -1,31 +1,41 @@
-use Rattle.std.proofs.Common.{ℕ, Bool, not, List, ap, ◌∙◌, rules, tests}
+use Rattle.std.proofs.Common.{ℕ, List, not, ap, sym, ◌∙◌}
 use Rattle.std.specs.Prelude.{is_some}
-use Rattle.std.proofs.lemmas.Iterator.{YieldsList-from_slice}
-use Rattle.std.proofs.lemmas.Iterator.Search.{find_from_yields_List}
-use Rattle.toml.specs.View.{view}
-use Rattle.toml.specs.declared.value.Value.{Value}
-use Rattle.tsn_net.specs.Document.{text_of}
+use Rattle.std.specs.List.{find}
 use Rattle.tsn_net.specs.DocumentView.{texts_view}
 use Rattle.tsn_net.specs.Conditions.{is_name}
-use Rattle.tsn_net.proofs.MatterLemmas.{find-map, found_amiss}
+use Rattle.tsn_net.proofs.MatterLemmas.{found_amiss}
+use Rattle.tsn_net.proofs.Rest.{rest_seen, rest_none, find_here, find_later}
+use Rattle.tsn_net.proofs.RouteLemmas.{text_in}
 use Rattle.tsn_net.proofs.tables.no_name_in.Goals as goal
 
-pub returns-in-Some-clause-first : goal.returns-in-Some-clause-first
-returns-in-Some-clause-first c =
-    let test : List ℕ → Bool = λ t. not (is_name t) in
-    let found = find_from_yields_List (λ (v : Value). test (text_of (view v))) _ _ _ c.find.ensures.ran (YieldsList-from_slice c.args.texts.now cc)
-    (λ x b q k. search (rules, tests)) in
-    rw (find-map test (λ (v : Value). text_of (view v)) c.args.texts.now, ← found, c.in-Some.is, c.text.ensures)
+pub returns-then-not-is_name-clause-first : goal.returns-then-not-is_name-clause-first
+returns-then-not-is_name-clause-first c =
+    let vs = c.args.texts.now in
+    let i = c.loop-value.value-index in
+    let name = c.text-name.result.now in
+    let next = rest_seen text_in vs i c.value-item.result name c.loop-value-test.true c.value-item.is c.text-name.ensures in
+    find_here (λ (n : List ℕ). not (is_name n)) _ _ name next _
+    (ap not (sym c.is_name.ensures ∙ c.if-not-is_name.true)) c.loop-value.invariant
 
-pub returns-in-Some-clause-found : goal.returns-in-Some-clause-found
-returns-in-Some-clause-found c = ap is_some (returns-in-Some-clause-first c) ∙ found_amiss (is_name) (texts_view c.args.texts.now)
+pub returns-then-not-is_name-clause-found : goal.returns-then-not-is_name-clause-found
+returns-then-not-is_name-clause-found c = ap is_some (returns-then-not-is_name-clause-first c)
+    ∙ found_amiss (is_name) (texts_view c.args.texts.now)
 
-pub returns-in-None-clause-first : goal.returns-in-None-clause-first
-returns-in-None-clause-first c =
-    let test : List ℕ → Bool = λ t. not (is_name t) in
-    let found = find_from_yields_List (λ (v : Value). test (text_of (view v))) _ _ _ c.find.ensures.ran (YieldsList-from_slice c.args.texts.now cc)
-    (λ x b q k. search (rules, tests)) in
-    rw (find-map test (λ (v : Value). text_of (view v)) c.args.texts.now, ← found, c.in-None.is)
+pub loop-value-preserved : goal.loop-value-preserved
+loop-value-preserved c =
+    let vs = c.args.texts.now in
+    let i = c.loop-value.value-index in
+    let name = c.text-name.result.now in
+    let next = rest_seen text_in vs i c.value-item.result name c.loop-value-test.true c.value-item.is c.text-name.ensures in
+    find_later (λ (n : List ℕ). not (is_name n)) _ _ name next _
+    (ap not (sym c.is_name.ensures ∙ c.if-not-is_name.false)) c.loop-value.invariant
 
-pub returns-in-None-clause-found : goal.returns-in-None-clause-found
-returns-in-None-clause-found c = ap is_some (returns-in-None-clause-first c) ∙ found_amiss (is_name) (texts_view c.args.texts.now)
+pub returns-clause-first : goal.returns-clause-first
+returns-clause-first c =
+    let vs = c.args.texts.now in
+    sym (ap (find (λ n. not (is_name n)))
+    (rest_none text_in vs c.loop-value.value-index c.loop-value-test.false)) ∙ c.loop-value.invariant
+
+pub returns-clause-found : goal.returns-clause-found
+returns-clause-found c = ap is_some (returns-clause-first c)
+    ∙ found_amiss (is_name) (texts_view c.args.texts.now)
