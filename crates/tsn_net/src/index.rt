@@ -1,11 +1,16 @@
 //! Where the elements of lists stand, by hash.
-ghost use Rattle.std.specs.Prelude.{◌≡◌, map, IfOk, OnOk};
+ghost use Rattle.std.specs.Prelude.{◌≡◌, ◌&&◌, ℕ, List, map, IfOk, OnOk};
+ghost use Rattle.std.specs.List.{list_any};
+ghost use Rattle.std.specs.Str.{bytes_eq};
+ghost use Rattle.indexmap.specs.IndexSet.{contains_by};
 ghost use Rattle.std.specs.Option.{option_copied};
 ghost use Rattle.toml.specs.View.{view};
+ghost use Rattle.tsn_net.specs.Schema.{holds_at, is_this_text};
+ghost use Rattle.tsn_net.specs.Document.{text_at};
 ghost use Rattle.tsn_net.specs.Index.{Enters, AreLinkNumbers, AreNameNumbers, AreStations, AreBridges, AreCableNumbers, below};
 
 use crate::document::text_at;
-use crate::schema::{Key, is_bridge, is_station};
+use crate::schema::{Key, has_node_kind};
 use indexmap::{IndexMap, IndexSet};
 use std::alloc::{AllocError, Global};
 use std::hash::Hash;
@@ -56,8 +61,8 @@ fn number_links(
     Ok(numbers)
 }
 
-/// The number of the first of some tables of each name.
-pub(crate) fn number_names<'a>(
+// The number of the first of some tables of each name.
+fn number_names<'a>(
     alloc: Global,
     tables: &'a [Value],
 ) -> Result<IndexMap<&'a str, usize>, AllocError>
@@ -70,40 +75,74 @@ pub(crate) fn number_names<'a>(
     Ok(numbers)
 }
 
-/// The names of stations.
-pub(crate) fn stations_in<'a>(
+/// By hash, the number of the first node and of the first stream of each name, and of the first cable between two nodes.
+#[derive(Drop)]
+pub(crate) struct Numbers<'a> {
+    pub(crate) nodes: IndexMap<&'a str, usize>,
+    pub(crate) streams: IndexMap<&'a str, usize>,
+    pub(crate) cables: IndexMap<(&'a str, &'a str), usize>,
+}
+
+impl<'a> Numbers<'a> {
+    pub(crate) fn of(
+        alloc: Global,
+        nodes: &'a [Value],
+        streams: &'a [Value],
+        cables: &'a [Value],
+    ) -> Result<Numbers<'a>, AllocError>
+        ensures nodes { IfOk result (λ numbers. AreNameNumbers (map view nodes.now) numbers.nodes) }
+        ensures streams { IfOk result (λ numbers. AreNameNumbers (map view streams.now) numbers.streams) }
+        ensures cables { IfOk result (λ numbers. AreCableNumbers (map view cables.now) numbers.cables) }
+    {
+        let nodes = number_names(alloc, nodes)?;
+        let streams = number_names(alloc, streams)?;
+        let cables = number_cables(alloc, cables)?;
+        Ok(Numbers {
+            nodes,
+            streams,
+            cables,
+        })
+    }
+}
+
+/// The names of stations, and those of bridges.
+#[derive(Drop)]
+pub(crate) struct Kinds<'a> {
+    pub(crate) stations: IndexSet<&'a str>,
+    pub(crate) bridges: IndexSet<&'a str>,
+}
+
+impl<'a> Kinds<'a> {
+    pub(crate) fn of(alloc: Global, nodes: &'a [Value]) -> Result<Kinds<'a>, AllocError>
+        ensures stations { IfOk result (λ kinds. AreStations (map view nodes.now) kinds.stations) }
+        ensures bridges { IfOk result (λ kinds. AreBridges (map view nodes.now) kinds.bridges) }
+    {
+        let stations = names_in(alloc, nodes, "station")?;
+        let bridges = names_in(alloc, nodes, "bridge")?;
+        Ok(Kinds { stations, bridges })
+    }
+}
+
+// The names of the nodes of this kind.
+fn names_in<'a>(
     alloc: Global,
     nodes: &'a [Value],
+    kind: &str,
 ) -> Result<IndexSet<&'a str>, AllocError>
-    ensures { IfOk result (λ names. AreStations (map view nodes.now) names) }
+    ensures { IfOk result (λ names. (name : List ℕ) → contains_by (λ k. bytes_eq name k.now) names
+        ≡ list_any (λ n. bytes_eq (text_at Key.Name n) name && holds_at Key.Kind (is_this_text kind.now) n) (map view nodes.now)) }
 {
     let mut names = IndexSet::new(alloc);
     for node in nodes {
-        if is_station(node) {
+        if has_node_kind(node, kind) {
             names.insert(text_at(node, Key::Name))?;
         }
     }
     Ok(names)
 }
 
-/// The names of bridges.
-pub(crate) fn bridges_in<'a>(
-    alloc: Global,
-    nodes: &'a [Value],
-) -> Result<IndexSet<&'a str>, AllocError>
-    ensures { IfOk result (λ names. AreBridges (map view nodes.now) names) }
-{
-    let mut names = IndexSet::new(alloc);
-    for node in nodes {
-        if is_bridge(node) {
-            names.insert(text_at(node, Key::Name))?;
-        }
-    }
-    Ok(names)
-}
-
-/// The number of the first of some cables that joins two nodes, by their names in either order.
-pub(crate) fn number_cables<'a>(
+// The number of the first of some cables that joins two nodes, by their names in either order.
+fn number_cables<'a>(
     alloc: Global,
     cables: &'a [Value],
 ) -> Result<IndexMap<(&'a str, &'a str), usize>, AllocError>
