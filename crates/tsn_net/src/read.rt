@@ -1,10 +1,15 @@
 //! Reads a network file.
-ghost use Rattle.std.specs.Prelude.{◌≡◌, ◌⊎◌, IfOk, IfErr, IsOkUnless};
+ghost use Rattle.std.specs.Prelude.{◌≡◌, ◌⊎◌, Some, None, IfOk, IfErr, IsOkUnless};
 ghost use Rattle.toml.specs.Data.{table};
-ghost use Rattle.toml.specs.View.{table_view};
+ghost use Rattle.toml.specs.View.{view, table_view};
 ghost use Rattle.tsn_net.specs.Document.{document_of};
+ghost use Rattle.tsn_net.specs.DocumentView.{document_view};
+ghost use Rattle.tsn_net.specs.Conditions.{fault_of};
+ghost use Rattle.tsn_net.specs.Matter.{amiss_fault};
+ghost use Rattle.tsn_net.specs.Problem.{problem_of};
 ghost use Rattle.tsn_net.specs.File.{Spells, States, HasFault, IsFaultless, out_of_memory};
 
+use crate::conditions::Amiss;
 use crate::document::Document;
 use crate::problem::problem_of;
 use crate::words::{not_toml_words, words_of};
@@ -59,18 +64,41 @@ pub fn read_or_refuse(alloc: Global, bytes: &[u8]) -> Result<Problem, Refused>
     ensures accepted { IsFaultless bytes.now → IfErr result (λ refused. refused.fault ≡ out_of_memory) }
 {
     let top = Value::Table(parse(alloc, bytes)?);
-    let Ok(document) = Document::of(alloc, &top) else {
-        return Err(Refused::memory());
-    };
-    if let Some(amiss) = document.amiss() {
-        return Err(Refused {
-            fault: amiss.fault(),
-            words: words_of(alloc, document.names(amiss.place), amiss),
-        });
+    problem_in(alloc, &top)
+}
+
+// The problem that the top table of a file states, or why it states none.
+fn problem_in(alloc: Global, top: &Value) -> Result<Problem, Refused>
+    ensures problem { IfOk result (λ problem. (fault_of (document_of (view top.now)) ≡ None) × (problem ≡ problem_of (document_of (view top.now)))) }
+    ensures fault { IfErr result (λ refused. (refused.fault ≡ out_of_memory) ⊎ (fault_of (document_of (view top.now)) ≡ Some refused.fault)) }
+{
+    match Document::of(alloc, top) {
+        Ok(document) => stated(alloc, &document),
+        Err(_) => Err(Refused::memory()),
     }
-    match problem_of(alloc, &document) {
+}
+
+// The problem that a document states, or why it states none.
+fn stated(alloc: Global, document: &Document<'_>) -> Result<Problem, Refused>
+    ensures problem { IfOk result (λ problem. (fault_of (document_view document.now) ≡ None) × (problem ≡ problem_of (document_view document.now))) }
+    ensures fault { IfErr result (λ refused. (refused.fault ≡ out_of_memory) ⊎ (fault_of (document_view document.now) ≡ Some refused.fault)) }
+{
+    if let Some(amiss) = document.amiss() {
+        return Err(refused_for(alloc, document, amiss));
+    }
+    match problem_of(alloc, document) {
         Ok(problem) => Ok(problem),
         Err(_) => Err(Refused::memory()),
+    }
+}
+
+// Why a document is refused, by what is the matter with it.
+fn refused_for(alloc: Global, document: &Document<'_>, amiss: Amiss<'_>) -> Refused
+    ensures { result.fault ≡ amiss_fault amiss.entry }
+{
+    Refused {
+        fault: amiss.fault(),
+        words: words_of(alloc, document.names(amiss.place), amiss),
     }
 }
 

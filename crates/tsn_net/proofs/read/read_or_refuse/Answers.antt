@@ -1,22 +1,21 @@
-use Rattle.std.proofs.Common.{option_map, ap, sym, ◌∙◌}
-use Rattle.tsn_net.specs.Matter.{amiss_fault}
-use Rattle.tsn_net.specs.DocumentView.{document_view}
-use Rattle.tsn_net.proofs.Faultless.{distinct_nodes, distinct_streams}
-use Rattle.tsn_net.proofs.WellFormed.{well_formed, offsets_within}
+use Rattle.std.proofs.Common.{sym, subst}
+use Rattle.toml.proofs.Views.{view-Table}
+use Rattle.tsn_net.specs.Document.{document_of}
+use Rattle.tsn_net.specs.File.{Spells}
+use Rattle.tsn_net.proofs.Stating.{file_states, file_refused, file_accepted}
 use Rattle.tsn_net.proofs.read.read_or_refuse.Goals as goal
 
-pub problem_of-requires-clause-nodes : goal.problem_of-requires-clause-nodes
-problem_of-requires-clause-nodes c =
-    distinct_nodes (document_view c.in-Ok.document) (sym c.amiss.ensures.0 ∙ ap (option_map amiss_fault) c.in_default-amiss.is)
+pub returns-clause-problem : goal.returns-clause-problem
+returns-clause-problem c =
+    let spelled = subst (λ d. Spells c.args.bytes.now (document_of d)) (sym (view-Table c.in_ok-parse.field-0)) c.in_ok-parse.ensures.table in
+    file_states c.args.bytes.now _ spelled _ c.problem_in.ensures.problem
 
-pub problem_of-requires-clause-streams : goal.problem_of-requires-clause-streams
-problem_of-requires-clause-streams c =
-    distinct_streams (document_view c.in-Ok.document) (sym c.amiss.ensures.0 ∙ ap (option_map amiss_fault) c.in_default-amiss.is)
+pub returns-clause-fault : goal.returns-clause-fault
+returns-clause-fault c =
+    let spelled = subst (λ d. Spells c.args.bytes.now (document_of d)) (sym (view-Table c.in_ok-parse.field-0)) c.in_ok-parse.ensures.table in
+    file_refused c.args.bytes.now _ spelled _ c.problem_in.ensures.fault
 
-pub problem_of-requires-clause-well_formed : goal.problem_of-requires-clause-well_formed
-problem_of-requires-clause-well_formed c =
-    well_formed (document_view c.in-Ok.document) (sym c.amiss.ensures.0 ∙ ap (option_map amiss_fault) c.in_default-amiss.is)
-
-pub problem_of-requires-clause-offsets : goal.problem_of-requires-clause-offsets
-problem_of-requires-clause-offsets c =
-    offsets_within (document_view c.in-Ok.document) (sym c.amiss.ensures.0 ∙ ap (option_map amiss_fault) c.in_default-amiss.is)
+pub returns-clause-accepted : goal.returns-clause-accepted
+returns-clause-accepted c = λ faultless.
+    let spelled = subst (λ d. Spells c.args.bytes.now (document_of d)) (sym (view-Table c.in_ok-parse.field-0)) c.in_ok-parse.ensures.table in
+    file_accepted c.args.bytes.now _ spelled _ faultless c.problem_in.ensures.fault
