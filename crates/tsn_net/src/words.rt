@@ -118,26 +118,14 @@ fn push_matter(text: &mut TextBuilder, matter: Matter<'_>, place: Place) {
         Matter::NoTable => text.push_str("it has to be a table"),
         Matter::WrongKind(key) => push_wrong_kind(text, key),
         Matter::UnknownKey(name) => push_unknown(text, name, place),
-        Matter::OutOfRange(key, number) => push_out_of_range(text, key, number),
-        Matter::TooMany(key, count) => push_too_many(text, key, count),
-        Matter::TooManyFrames(count) => {
-            push_number(text, "the streams send ", count);
-            text.push_str(" frames in a cycle, and may send at most 65536");
-        }
-        Matter::NoName(key, name) => {
-            text.push_str(key.name());
-            push_no_name(text, " is ", name);
-        }
-        Matter::RouteCount(count) => {
-            push_count(text, "routes has ", count);
-            text.push_str(" elements, and has to have 1 to 32");
-        }
-        Matter::LongRoute(count) => {
-            push_count(text, "route has ", count);
-            push_most(text, " names", Key::Route);
-        }
-        Matter::NoRouteName(name) => push_no_name(text, "a name of route is ", name),
-        Matter::ManyLinks => text.push_str(MANY_LINKS),
+        Matter::OutOfRange(..)
+        | Matter::TooMany(..)
+        | Matter::TooManyFrames(_)
+        | Matter::NoName(..)
+        | Matter::RouteCount(_)
+        | Matter::LongRoute(_)
+        | Matter::NoRouteName(_)
+        | Matter::ManyLinks => push_limit(text, matter),
         Matter::TakenName(number) => push_taken_name(text, place, number),
         Matter::NoNode(name) => push_name(text, "there is no node ", name),
         Matter::BadRate(mbps) => {
@@ -166,6 +154,33 @@ fn push_matter(text: &mut TextBuilder, matter: Matter<'_>, place: Place) {
             push_number(text, " doesn't divide the cycle ", cycle);
         }
         Matter::BadSlack(slack, step) => push_too_quick(text, slack, step),
+    }
+}
+
+// Writes which number, count or name is outside its limits.
+fn push_limit(text: &mut TextBuilder, matter: Matter<'_>) {
+    match matter {
+        Matter::OutOfRange(key, number) => push_out_of_range(text, key, number),
+        Matter::TooMany(key, count) => push_too_many(text, key, count),
+        Matter::TooManyFrames(count) => {
+            push_number(text, "the streams send ", count);
+            text.push_str(" frames in a cycle, and may send at most 65536");
+        }
+        Matter::NoName(key, name) => {
+            text.push_str(key.name());
+            push_no_name(text, " is ", name);
+        }
+        Matter::RouteCount(count) => {
+            push_count(text, "routes has ", count);
+            text.push_str(" elements, and has to have 1 to 32");
+        }
+        Matter::LongRoute(count) => {
+            push_count(text, "route has ", count);
+            push_most(text, " names", Key::Route);
+        }
+        Matter::NoRouteName(name) => push_no_name(text, "a name of route is ", name),
+        Matter::ManyLinks => text.push_str(MANY_LINKS),
+        _ => {}
     }
 }
 
