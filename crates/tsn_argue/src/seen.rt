@@ -80,11 +80,31 @@ pub struct Marks {
 impl Marks {
     /// No frames.
     pub fn none(alloc: Global) -> Result<Marks, NoMemory> {
-        Ok(Marks {
-            others: Seen::none(alloc)?,
-            some: Seen::none(alloc)?,
-            left: Shelf::none(alloc)?,
-            right: Shelf::none(alloc)?,
-        })
+        let (others, some) = two_seen(alloc)?;
+        match two_shelves(alloc) {
+            Ok((left, right)) => Ok(Marks {
+                others,
+                some,
+                left,
+                right,
+            }),
+            Err(error) => {
+                drop(others);
+                drop(some);
+                Err(error.into())
+            }
+        }
     }
+}
+
+fn two_seen(alloc: Global) -> Result<(Seen, Seen), AllocError> {
+    let others = Seen::none(alloc)?;
+    let some = Seen::none(alloc)?;
+    Ok((others, some))
+}
+
+fn two_shelves(alloc: Global) -> Result<(Shelf, Shelf), AllocError> {
+    let left = Shelf::none(alloc)?;
+    let right = Shelf::none(alloc)?;
+    Ok((left, right))
 }

@@ -214,6 +214,33 @@ impl<'a> Known<'a> {
         })
     }
 
+    /// Takes one step after another; else tells the first that is wrong, or what they leave in question.
+    fn take_all<L: Observer>(
+        &mut self,
+        aim: &Aim<'_>,
+        steps: &'a [Step],
+        marks: &mut Marks,
+        observer: &mut L,
+    ) -> Result<(), ArgumentFault>
+        requires first { IsFirst self.old.view.timing.now (goal_of aim.now) self.old }
+        requires aim { IsAim self.old.view.timing.now aim.now }
+        ensures ok { OnOk result (Argues self.old.view.timing.now (goal_of aim.now) (steps_of steps.now)) }
+        ensures err { IfErr result (λ fault. (fault ≡ ArgumentFault.Memory)
+            ⊎ IsArgumentFault self.old.view.timing.now (goal_of aim.now) (steps_of steps.now) fault) }
+        ensures told { OnOk result (L.heard observer.new ≡ with_told (L.heard observer.old)
+            (told_of self.old.view.timing.now (goal_of aim.now) (steps_of steps.now))) }
+    {
+        for (number, step) in steps.iter().enumerate() {
+            if let Err(stop) = self.take(aim, step, marks, observer) {
+                return Err(stop.at(number));
+            }
+        }
+        match judge_end(&self.view, aim) {
+            None => Ok(()),
+            Some(left) => Err(ArgumentFault::Unfinished(steps.len(), left)),
+        }
+    }
+
     /// Takes a step, if it is right.
     fn take<L: Observer>(
         &mut self,
@@ -328,15 +355,30 @@ pub fn check_steps<L: Observer>(
     ensures told { OnOk result (L.heard observer.new ≡ with_told (L.heard observer.old)
         (told_of timing.now (goal_of aim.now) (steps_of steps.now))) }
 {
-    let mut known = Known::first(alloc, timing, aim)?;
     let mut marks = Marks::none(alloc)?;
-    for (number, step) in steps.iter().enumerate() {
-        if let Err(stop) = known.take(aim, step, &mut marks, observer) {
-            return Err(stop.at(number));
-        }
-    }
-    match judge_end(&known.view, aim) {
-        None => Ok(()),
-        Some(left) => Err(ArgumentFault::Unfinished(steps.len(), left)),
-    }
+    let checked = check_with(alloc, timing, aim, steps, &mut marks, observer);
+    drop(marks);
+    checked
+}
+
+/// The same, where these marks are at hand.
+fn check_with<L: Observer>(
+    alloc: Global,
+    timing: &Timing,
+    aim: &Aim<'_>,
+    steps: &[Step],
+    marks: &mut Marks,
+    observer: &mut L,
+) -> Result<(), ArgumentFault>
+    requires { IsAim timing.now aim.now }
+    ensures ok { OnOk result (Argues timing.now (goal_of aim.now) (steps_of steps.now)) }
+    ensures err { IfErr result (λ fault. (fault ≡ ArgumentFault.Memory)
+        ⊎ IsArgumentFault timing.now (goal_of aim.now) (steps_of steps.now) fault) }
+    ensures told { OnOk result (L.heard observer.new ≡ with_told (L.heard observer.old)
+        (told_of timing.now (goal_of aim.now) (steps_of steps.now))) }
+{
+    let mut known = Known::first(alloc, timing, aim)?;
+    let taken = known.take_all(aim, steps, marks, observer);
+    drop(known);
+    taken
 }

@@ -1,10 +1,9 @@
 use Rattle.std.proofs.Common.{◌≡◌, ◌+ℤ◌, to_z, of_z, w64, inr, sym, ap, subst, ◌∙◌, arith}
-use Rattle.std.proofs.lemmas.Grind.{common_steps}
 use mir.Syntax.{w128}
 use Rattle.std.proofs.lemmas.Int.{ints}
 use Rattle.tsn_model.specs.Schedule.{IsConflict}
 use Rattle.tsn_model.specs.Arcs.{arc_of}
-use Rattle.tsn_model.specs.Argument.{low_at, high_at, shown}
+use Rattle.tsn_model.specs.Argument.{IsOutOfReach, low_at, high_at, shown}
 use Rattle.tsn_check.specs.declared.wrong.Wrong.TheVariants.{InReach}
 use Rattle.tsn_argue.specs.Faults.{IsInReach}
 use Rattle.tsn_argue.specs.State.{view_of}
@@ -18,7 +17,13 @@ arc_at-arc-requires c =
 
 pub returns-then-least-most : goal.returns-then-least-most
 unfolding shown
-returns-then-least-most c = grind (arith, common_steps)
+returns-then-least-most c =
+    let view = view_of c.args.basis.now.view.now in
+    let same_arc = c.arc_at-arc.ensures.is ∙ ap (arc_of c.args.basis.now.view.now.timing.now) c.turned.ensures in (
+      (c.if-not-is_conflict.ensures, subst (IsOutOfReach view) same_arc (omega (arith, ints))),
+      c.one.ensures.shown,
+      c.one.ensures.facts,
+    )
 
 pub returns-else-least-most : goal.returns-else-least-most
 returns-else-least-most c =
