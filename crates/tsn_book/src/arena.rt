@@ -474,18 +474,20 @@ impl Tree {
         comes_before(solved.valid().offsets(), best_solved.valid().offsets())
     }
 
-    /// A tree whose root is open.
-    pub fn new(alloc: Global, network: Timing) -> Result<Tree, AllocError>
+    /// A tree of a network whose root is open. The error says that there was no memory.
+    pub fn new(alloc: Global, network: &Timing) -> Result<Tree, NoMemory>
         ensures tree { IfOk result (λ tree. IsArena tree) }
-        ensures network { IfOk result (λ tree. tree.network ≡ network) }
+        ensures network { IfOk result (λ tree. tree.network ≡ network.now) }
         ensures history { IfOk result (λ tree. settled_in tree ≡ []) }
         ensures events { IfOk result (λ tree. tree.events.items ≡ []) }
         ensures waiting { IfOk result (λ tree. tree.events.waiting ≡ []) }
         ensures statuses { IfOk result (λ tree. tree.places.statuses ≡ Status.Open ∷ []) }
     {
+        let places = Places::new(alloc)?;
+        let network = network.copy(alloc)?;
         Ok(Tree {
             network,
-            places: Places::new(alloc)?,
+            places,
             events: Log::new(alloc),
         })
     }
@@ -507,8 +509,12 @@ pub fn split_of(look: &Look) -> Option<Triple>
 fn decides(path: &[Decision], triple: Triple) -> bool
     ensures { IsTrue result ↔ Any (λ decision. decision.triple ≡ triple) path.now }
 {
-    path.iter()
-        .any(|decision| same_triple(decision.triple, triple))
+    for decision in path {
+        if same_triple(decision.triple, triple) {
+            return true;
+        }
+    }
+    false
 }
 
 fn same_triple(a: Triple, b: Triple) -> bool

@@ -56,7 +56,7 @@ impl Book {
         let past_cycle = timing.cycle() + 1;
         let closed = one_open(alloc)?;
         let tallies = tallies_of(alloc, tellers, past_cycle)?;
-        let tree = Tree::new(alloc, timing.copy(alloc)?)?;
+        let tree = Tree::new(alloc, timing)?;
         Ok(Book {
             ledger: Ledger {
                 tree,

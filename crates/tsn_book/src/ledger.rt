@@ -12,6 +12,7 @@ ghost use Rattle.tsn_book.specs.Arena.{HasRoom, settled_in};
 ghost use Rattle.tsn_book.specs.Book.{IsFault, IsPlanOf, SpellsAccepted, AreNodesOf, child_count, is_better, kept_after, tally_after};
 ghost use Rattle.tsn_book.specs.Below.{events_below, path_after, next_path, after_leaf, IsFaultAt};
 ghost use Rattle.tsn_book.specs.Log.{next_of};
+ghost use Rattle.tsn_book.specs.Spelling.{IsOrder};
 ghost use Rattle.tsn_book.specs.Ledger.{IsLedger, progress_of, next_outcome, with_one, with_all};
 
 use crate::arena::{Bounds, Tree, split_of};
@@ -266,15 +267,45 @@ impl Ledger {
         ensures nodes { IfOk result (λ cert. AreNodesOf self.tree.network (settled_in self.tree) cert.nodes) }
         ensures counted { IfOk result (λ cert. length cert.nodes ≡ length (settled_in self.tree)) }
     {
-        let plan = self.plan()?;
+        match self.plan_and_order() {
+            Ok((plan, order)) => Ok(self.spelled(plan, order)),
+            Err(error) => {
+                drop(self);
+                Err(error)
+            }
+        }
+    }
+
+    // A copy of the schedule that is kept, and the order of the events' nodes.
+    fn plan_and_order(&self) -> Result<(Option<Solved>, Vec<usize>), NoMemory>
+        requires agrees { IsLedger self.now }
+        requires finished { open_paths (settled_in self.now.tree) ≡ [] }
+        ensures plan { IfOk result (λ found. IsPlanOf self.now.tree.network (settled_in self.now.tree) found.0) }
+        ensures order { IfOk result (λ found. IsOrder self.now.tree.network (settled_in self.now.tree) found.1.items) }
+    {
         let order = order_of(*self.tree.events.allocator(), &self.tree)?;
+        let plan = self.plan()?;
+        Ok((plan, order))
+    }
+
+    // The certificate by these.
+    fn spelled(self, plan: Option<Solved>, order: Vec<usize>) -> Spelling
+        requires agrees { IsLedger self }
+        requires plan { IsPlanOf self.tree.network (settled_in self.tree) plan }
+        requires order { IsOrder self.tree.network (settled_in self.tree) order.items }
+        ensures format { result.format ≡ Format.Two }
+        ensures target { result.target ≡ best_bound self.tree.network (settled_in self.tree) }
+        ensures accepted { SpellsAccepted self.tree.network (kept_of self.tree.network (settled_in self.tree)) result.nodes }
+        ensures nodes { AreNodesOf self.tree.network (settled_in self.tree) result.nodes }
+        ensures counted { length result.nodes ≡ length (settled_in self.tree) }
+    {
         let Ledger { tree, bounds, .. } = self;
         let Tree {
             network,
             events,
             ..
         } = tree;
-        Ok(Spelling::of(network, events, plan, bounds.best, order))
+        Spelling::of(network, events, plan, bounds.best, order)
     }
 
     // A copy of the schedule that is kept.

@@ -118,11 +118,12 @@ impl Spelling {
     {
         let mut spelling = self;
         let target = spelling.target;
-        let nodes = Nodes::of(spelling.rest()?);
+        let rest = spelling.rest();
+        drop(spelling);
         Ok(Cert {
             format: Format::Two,
             target,
-            nodes,
+            nodes: Nodes::of(rest?),
         })
     }
 

@@ -7,7 +7,7 @@ pub invariant_of-result : goal.invariant_of-result
 invariant_of-result c =
     let tree = c.in_ok-tree.tree in
     let known = c.in_ok-tree.ensures in
-    let copied : tree.network ≡ c.args.timing.now = known.network ∙ c.in_ok-copy.ensures in
+    let copied : tree.network ≡ c.args.timing.now = known.network in
     let cycle : c.cycle-past_cycle.result ≡ tree.network.cycle = c.cycle-past_cycle.ensures.value ∙ ap (λ n. n.cycle) (sym copied) in
     record {
       agrees = rw c.in_ok-closed.ensures (rw c.in_ok-tallies.ensures
