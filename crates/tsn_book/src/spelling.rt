@@ -132,7 +132,9 @@ impl Spelling {
     {
         let mut nodes = Vec::with_capacity(*self.order.allocator(), self.order.len())?;
         while let Some(node) = self.next()? {
-            nodes.push(node).map_err(|_| NoMemory)?;
+            if let Err(error) = nodes.push(node) {
+                return Err(AllocError::from(error).into());
+            }
         }
         Ok(nodes)
     }
