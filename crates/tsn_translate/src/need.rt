@@ -4,41 +4,53 @@ use tsn_bounds::known::Known;
 use tsn_bounds::literal::Literal;
 use tsn_bounds::number::{index, is_marked, mark, push};
 use tsn_bounds::reason::{Deed, Why};
+use tsn_bounds::record::Record;
+use tsn_bounds::trail::Trail;
 
 /// The changes before the first decision that are needed, and the clauses that were shown.
 #[derive(Drop)]
 pub struct Needed {
-    pub events: Vec<bool>,
-    pub shown: Vec<bool>,
-    // Changes and clauses that were met and not gone through.
-    open_events: Vec<u32>,
-    open_shown: Vec<u32>,
+    pub events: Met,
+    pub shown: Met,
 }
 
-impl Needed {
-    fn none(alloc: Global) -> Needed {
-        Needed {
-            events: Vec::new(alloc),
-            shown: Vec::new(alloc),
-            open_events: Vec::new(alloc),
-            open_shown: Vec::new(alloc),
+/// Numbers that were met.
+#[derive(Drop)]
+pub struct Met {
+    marks: Vec<bool>,
+    // Those that weren't gone through.
+    open: Vec<u32>,
+}
+
+impl Met {
+    fn none(alloc: Global) -> Met {
+        Met {
+            marks: Vec::new(alloc),
+            open: Vec::new(alloc),
         }
     }
 
-    fn meet_event(&mut self, number: u32) -> Result<(), AllocError> {
-        if is_marked(&self.events, number as usize) {
-            return Ok(());
-        }
-        mark(&mut self.events, number as usize, true);
-        push(&mut self.open_events, number)
+    /// Whether this number was met.
+    pub fn has(&self, number: usize) -> bool {
+        is_marked(&self.marks, number)
     }
 
-    fn meet_shown(&mut self, number: u32) -> Result<(), AllocError> {
-        if is_marked(&self.shown, number as usize) {
+    fn meet(&mut self, number: u32) -> Result<(), AllocError> {
+        if self.has(number as usize) {
             return Ok(());
         }
-        mark(&mut self.shown, number as usize, true);
-        push(&mut self.open_shown, number)
+        mark(&mut self.marks, number as usize, true);
+        push(&mut self.open, number)
+    }
+
+    // Meets the changes by which literals came to hold.
+    fn meet_all(&mut self, trail: &Trail, literals: &[Literal]) -> Result<(), AllocError> {
+        for literal in literals {
+            if let Some(number) = trail.event_of(*literal) {
+                self.meet(number)?;
+            }
+        }
+        Ok(())
     }
 }
 
@@ -49,38 +61,41 @@ pub fn needed_for(
     known: &mut Known,
     literals: &[Literal],
 ) -> Result<Needed, AllocError> {
-    let mut needed = Needed::none(alloc);
-    needed.meet_first(known, literals)?;
-    needed.go_through(known)?;
-    Ok(needed)
+    let mut needed = Needed {
+        events: Met::none(alloc),
+        shown: Met::none(alloc),
+    };
+    match needed.fill(known, literals) {
+        Ok(()) => Ok(needed),
+        Err(error) => {
+            drop(needed);
+            Err(error)
+        }
+    }
 }
 
 impl Needed {
-    fn meet_first(&mut self, known: &Known, literals: &[Literal]) -> Result<(), AllocError> {
-        self.events.resize(known.trail.events.len(), false)?;
-        self.shown.resize(known.record.count(), false)?;
-        if !known.is_open {
-            self.meet_shown(index(known.record.count().wrapping_sub(1)))?;
-        }
-        for literal in literals {
-            self.meet(known, *literal)?;
-        }
-        Ok(())
+    fn fill(&mut self, known: &mut Known, literals: &[Literal]) -> Result<(), AllocError> {
+        self.meet_first(known, literals)?;
+        self.go_through(known)
     }
 
-    fn meet(&mut self, known: &Known, literal: Literal) -> Result<(), AllocError> {
-        match known.trail.event_of(literal) {
-            Some(number) => self.meet_event(number),
-            None => Ok(()),
+    fn meet_first(&mut self, known: &Known, literals: &[Literal]) -> Result<(), AllocError> {
+        let count = known.record.count();
+        self.events.marks.resize(known.trail.events.len(), false)?;
+        self.shown.marks.resize(count, false)?;
+        if !known.is_open {
+            self.shown.meet(index(count.wrapping_sub(1)))?;
         }
+        self.events.meet_all(&known.trail, literals)
     }
 
     fn go_through(&mut self, known: &mut Known) -> Result<(), AllocError> {
         for _ in 0..u64::MAX {
-            if let Some(number) = self.open_events.pop() {
+            if let Some(number) = self.events.open.pop() {
                 self.go_through_event(known, number)?;
-            } else if let Some(number) = self.open_shown.pop() {
-                self.go_through_shown(known, number as usize)?;
+            } else if let Some(number) = self.shown.open.pop() {
+                self.go_through_shown(&known.record, number as usize)?;
             } else {
                 break;
             }
@@ -91,24 +106,21 @@ impl Needed {
     fn go_through_event(&mut self, known: &mut Known, number: u32) -> Result<(), AllocError> {
         let event = known.trail.event(number);
         match event.why {
-            Why::Clause(clause) => self.meet_shown(known.clauses.clause(clause).shown)?,
-            Why::Shown(shown) => self.meet_shown(shown)?,
+            Why::Clause(clause) => self.shown.meet(known.clauses.clause(clause).shown)?,
+            Why::Shown(shown) => self.shown.meet(shown)?,
             _ => {}
         }
         known.explain(Literal::of(event.bound, event.new), event.why)?;
-        for literal in &known.needs {
-            self.meet(known, *literal)?;
-        }
-        Ok(())
+        self.events.meet_all(&known.trail, &known.needs)
     }
 
-    fn go_through_shown(&mut self, known: &Known, number: usize) -> Result<(), AllocError> {
-        for event in known.record.grounds(number) {
-            self.meet_event(*event)?;
+    fn go_through_shown(&mut self, record: &Record, number: usize) -> Result<(), AllocError> {
+        for event in record.grounds(number) {
+            self.events.meet(*event)?;
         }
-        for deed in known.record.deeds(number) {
+        for deed in record.deeds(number) {
             if let Deed::Use(shown) = *deed {
-                self.meet_shown(shown)?;
+                self.shown.meet(shown)?;
             }
         }
         Ok(())

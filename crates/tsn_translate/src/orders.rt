@@ -2,7 +2,7 @@
 //! further they are in its list, those in the other direction the less far. A pair and a side are named by one number: twice the
 //! number of the pair, and one more where the right stream goes first.
 use std::alloc::{AllocError, Global};
-use tsn_bounds::number::{NONE, index, index_at, is_marked, mark, push, put_index};
+use tsn_bounds::number::{NONE, index_at, is_marked, mark, push, put_index};
 
 /// The orders of a view.
 #[derive(Drop)]
@@ -12,8 +12,14 @@ pub struct Held {
     // Of each conflict and side whether the view has it.
     has: Vec<bool>,
     // What was noted.
-    pairs: Vec<u32>,
-    orders: Vec<u32>,
+    noted: Vec<Noted>,
+}
+
+// The order of a conflict and a side, and its pair and side.
+#[derive(Clone, Copy)]
+struct Noted {
+    order: usize,
+    pair: usize,
 }
 
 impl Held {
@@ -22,8 +28,7 @@ impl Held {
         Held {
             most: Vec::new(alloc),
             has: Vec::new(alloc),
-            pairs: Vec::new(alloc),
-            orders: Vec::new(alloc),
+            noted: Vec::new(alloc),
         }
     }
 
@@ -50,8 +55,7 @@ impl Held {
             return Ok(());
         }
         mark(&mut self.has, order, true);
-        push(&mut self.orders, index(order))?;
-        push(&mut self.pairs, index(pair))?;
+        push(&mut self.noted, Noted { order, pair })?;
         let most = stronger(pair, self.most(pair), conflict);
         put_index(&mut self.most, pair, most);
         Ok(())
@@ -59,14 +63,11 @@ impl Held {
 
     /// The view has none of them any longer.
     pub fn clear(&mut self) {
-        for order in &self.orders {
-            mark(&mut self.has, *order as usize, false);
+        for noted in &self.noted {
+            mark(&mut self.has, noted.order, false);
+            put_index(&mut self.most, noted.pair, NONE);
         }
-        for pair in &self.pairs {
-            put_index(&mut self.most, *pair as usize, NONE);
-        }
-        self.orders.clear();
-        self.pairs.clear();
+        self.noted.clear();
     }
 }
 

@@ -3,9 +3,7 @@ ghost use Rattle.std.specs.Prelude.{◌<◌};
 ghost use Rattle.tsn_model.specs.Network.{stream_count};
 
 use std::alloc::{AllocError, Global};
-use tsn_bounds::number::{
-    NONE, at, index, index_at, less, next, push, put, put_index, signed, sum,
-};
+use tsn_bounds::number::{NONE, index, index_at, less, next, push, put_index, signed, sum};
 use tsn_bounds::table::{Block, Body, Conflict, NO_VISIT, Pair, Shared, Stays, Table, Visit};
 use tsn_timing::Timing;
 use tsn_timing::users::User;
@@ -23,23 +21,36 @@ pub fn table_of(alloc: Global, timing: &Timing, most: i64) -> Result<Table, Allo
 }
 
 fn fill_table(table: &mut Table, alloc: Global, timing: &Timing) -> Result<(), AllocError> {
-    let mut places = Vec::new(alloc);
-    places.resize(timing.links(), NONE)?;
-    note_links(table, alloc, timing, &mut places)?;
-    for stream in 0..timing.streams() {
-        let stays = stays_of(alloc, timing, stream, &places)?;
-        push(&mut table.stays, stays)?;
-    }
-    note_bodies(table, timing)?;
-    for left in 0..timing.streams() {
-        note_pairs(table, alloc, timing, left)?;
-    }
+    note_ways(table, alloc, timing)?;
+    note_bodies(&mut table.bodies, timing)?;
+    note_pairs(table, alloc, timing)?;
     table.note_rivals(alloc)
 }
 
-fn note_bodies(table: &mut Table, timing: &Timing) -> Result<(), AllocError> {
+// The links that matter, and where each stream goes.
+fn note_ways(table: &mut Table, alloc: Global, timing: &Timing) -> Result<(), AllocError> {
+    let mut places = Vec::new(alloc);
+    places.resize(timing.links(), NONE)?;
+    note_links(&mut table.links, alloc, timing, &mut places)?;
+    note_stays(&mut table.stays, alloc, timing, &places)
+}
+
+fn note_stays(
+    list: &mut Vec<Stays>,
+    alloc: Global,
+    timing: &Timing,
+    places: &[u32],
+) -> Result<(), AllocError> {
     for stream in 0..timing.streams() {
-        push(&mut table.bodies, body_of(timing, stream))?;
+        let stays = stays_of(alloc, timing, stream, places)?;
+        push(list, stays)?;
+    }
+    Ok(())
+}
+
+fn note_bodies(bodies: &mut Vec<Body>, timing: &Timing) -> Result<(), AllocError> {
+    for stream in 0..timing.streams() {
+        push(bodies, body_of(timing, stream))?;
     }
     Ok(())
 }
@@ -56,7 +67,7 @@ fn body_of(timing: &Timing, stream: usize) -> Body
 }
 
 fn note_links(
-    table: &mut Table,
+    links: &mut Vec<Shared>,
     alloc: Global,
     timing: &Timing,
     places: &mut [u32],
@@ -64,7 +75,8 @@ fn note_links(
     for link in 0..timing.links() {
         let on = timing.users(link);
         if on.len() > 1 {
-            note_link(table, alloc, timing, link, on, places)?;
+            let visits = visits_of(alloc, timing, on)?;
+            note_link(links, link, visits, places)?;
         }
     }
     Ok(())
@@ -72,27 +84,29 @@ fn note_links(
 
 // A link that several streams use, where they send three frames or more on it.
 fn note_link(
-    table: &mut Table,
-    alloc: Global,
-    timing: &Timing,
+    links: &mut Vec<Shared>,
     link: usize,
-    on: &[User],
+    visits: Vec<Visit>,
     places: &mut [u32],
 ) -> Result<(), AllocError> {
+    if visits.len() > 2 {
+        put_index(places, link, index(links.len()));
+        let shared = Shared {
+            number: link,
+            visits,
+        };
+        push(links, shared)?;
+    }
+    Ok(())
+}
+
+fn visits_of(alloc: Global, timing: &Timing, on: &[User]) -> Result<Vec<Visit>, AllocError> {
     let common = common_period(timing, on);
     let mut visits = Vec::new(alloc);
     for user in on {
         note_frames(&mut visits, timing, first_of(timing, *user), common)?;
     }
-    if visits.len() > 2 {
-        put_index(places, link, index(table.links.len()));
-        let shared = Shared {
-            number: link,
-            visits,
-        };
-        push(&mut table.links, shared)?;
-    }
-    Ok(())
+    Ok(visits)
 }
 
 // After how long all frames of a link come again.
@@ -200,34 +214,98 @@ struct Rivalry {
     right_hop: usize,
 }
 
-// The pairs of a stream with those of greater numbers.
-fn note_pairs(
-    table: &mut Table,
-    alloc: Global,
-    timing: &Timing,
+// Two streams, and which of the rivalries are theirs.
+#[derive(Clone, Copy)]
+struct Couple {
     left: usize,
-) -> Result<(), AllocError> {
-    let mut rivalries = Vec::new(alloc);
-    note_rivalries(&mut rivalries, timing, left)?;
-    rivalries.sort_unstable_by_key(|it: &Rivalry| (it.right, it.left_hop));
-    let mut conflicts = Vec::new(alloc);
-    let mut lags = Vec::new(alloc);
-    let mut from: usize = 0;
-    for place in 0..rivalries.len() {
-        let behind = next(place);
-        if behind < rivalries.len() && rivalries[behind].right == rivalries[place].right {
-            continue;
+    right: usize,
+    from: usize,
+    to: usize,
+}
+
+// Lists that are filled again and again: for each stream its rivalries, for each pair the others.
+#[derive(Drop)]
+struct Lists {
+    rivalries: Vec<Rivalry>,
+    lags: Vec<i64>,
+    conflicts: Vec<Conflict>,
+}
+
+fn note_pairs(table: &mut Table, alloc: Global, timing: &Timing) -> Result<(), AllocError> {
+    let mut lists = Lists {
+        rivalries: Vec::new(alloc),
+        lags: Vec::new(alloc),
+        conflicts: Vec::new(alloc),
+    };
+    lists.note_all(table, timing)
+}
+
+impl Lists {
+    fn note_all(&mut self, table: &mut Table, timing: &Timing) -> Result<(), AllocError> {
+        for left in 0..timing.streams() {
+            self.note_pairs_of(table, timing, left)?;
         }
-        let right = rivalries[place].right;
-        conflicts.clear();
-        lags.clear();
-        let both = some_of(&rivalries, from, behind);
-        collect(&mut conflicts, &mut lags, table, timing, left, right, both)?;
-        conflicts.sort_unstable_by_key(|conflict: &Conflict| conflict.right_first.wrapping_neg());
-        note_pair(table, left, right, &conflicts)?;
-        from = behind;
+        Ok(())
     }
-    Ok(())
+
+    // The pairs of a stream with those of greater numbers.
+    fn note_pairs_of(
+        &mut self,
+        table: &mut Table,
+        timing: &Timing,
+        left: usize,
+    ) -> Result<(), AllocError> {
+        self.rivalries.clear();
+        note_rivalries(&mut self.rivalries, timing, left)?;
+        let mut from: usize = 0;
+        for place in 0..self.rivalries.len() {
+            let to = next(place);
+            let right = right_at(&self.rivalries, place);
+            if right_at(&self.rivalries, to) == right {
+                continue;
+            }
+            let couple = Couple {
+                left,
+                right,
+                from,
+                to,
+            };
+            self.collect(table, timing, couple)?;
+            note_pair(table, left, right, &self.conflicts)?;
+            from = to;
+        }
+        Ok(())
+    }
+
+    // The conflicts of two streams that can be met.
+    fn collect(
+        &mut self,
+        table: &Table,
+        timing: &Timing,
+        couple: Couple,
+    ) -> Result<(), AllocError> {
+        let Couple { left, right, .. } = couple;
+        self.conflicts.clear();
+        if left >= timing.streams() || right >= timing.streams() {
+            return Ok(());
+        }
+        note_lags(&mut self.lags, timing, left, right)?;
+        for rivalry in some_of(&self.rivalries, couple.from, couple.to) {
+            let meeting = meeting_of(table, timing, left, *rivalry);
+            note_conflicts(&mut self.conflicts, &self.lags, meeting)?;
+        }
+        self.conflicts
+            .sort_unstable_by_key(|conflict: &Conflict| conflict.right_first.wrapping_neg());
+        Ok(())
+    }
+}
+
+// The right stream of a rivalry; none that there is behind the last one.
+fn right_at(rivalries: &[Rivalry], place: usize) -> usize {
+    match rivalries.get(place) {
+        Some(rivalry) => rivalry.right,
+        None => usize::MAX,
+    }
 }
 
 // Those from one place up to another one.
@@ -260,42 +338,27 @@ fn note_rivalries(
             }
         }
     }
+    rivalries.sort_unstable_by_key(|it: &Rivalry| (it.right, it.left_hop));
     Ok(())
 }
 
-// The conflicts of two streams that can be met.
-fn collect(
-    conflicts: &mut Vec<Conflict>,
-    lags: &mut Vec<i64>,
-    table: &Table,
-    timing: &Timing,
-    left: usize,
-    right: usize,
-    both: &[Rivalry],
-) -> Result<(), AllocError> {
-    if left >= timing.streams() || right >= timing.streams() {
-        return Ok(());
+fn meeting_of(table: &Table, timing: &Timing, left: usize, rivalry: Rivalry) -> Meeting {
+    let right = rivalry.right;
+    let one = User {
+        stream: left,
+        hop: rivalry.left_hop,
+    };
+    let other = User {
+        stream: right,
+        hop: rivalry.right_hop,
+    };
+    Meeting {
+        least: less(low_of(table, right), high_of(table, left)),
+        greatest: less(high_of(table, right), low_of(table, left)),
+        link: link_of(timing, one),
+        left: first_of(timing, one),
+        right: first_of(timing, other),
     }
-    note_lags(lags, timing, left, right)?;
-    for rivalry in both {
-        let one = User {
-            stream: left,
-            hop: rivalry.left_hop,
-        };
-        let other = User {
-            stream: right,
-            hop: rivalry.right_hop,
-        };
-        let meeting = Meeting {
-            least: less(low_of(table, right), high_of(table, left)),
-            greatest: less(high_of(table, right), low_of(table, left)),
-            link: link_of(timing, one),
-            left: first_of(timing, one),
-            right: first_of(timing, other),
-        };
-        note_conflicts(conflicts, lags, meeting)?;
-    }
-    Ok(())
 }
 
 // The link of a stream's hop; 0 where there is none.
@@ -332,6 +395,7 @@ fn note_lags(
     requires left { left < stream_count timing.now }
     requires right { right < stream_count timing.now }
 {
+    lags.clear();
     let most = signed(timing.period(left));
     let least = signed(timing.period(right)).wrapping_neg();
     for first in timing.shifts(left) {
@@ -344,15 +408,7 @@ fn note_lags(
         }
     }
     lags.sort_unstable();
-    let mut count: usize = 0;
-    for place in 0..lags.len() {
-        let lag = at(lags, place);
-        if count == 0 || at(lags, count.wrapping_sub(1)) != lag {
-            put(lags, count, lag);
-            count = count.wrapping_add(1);
-        }
-    }
-    lags.truncate(count);
+    lags.dedup();
     Ok(())
 }
 

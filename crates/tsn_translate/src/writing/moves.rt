@@ -1,31 +1,22 @@
 //! The moves of deeds.
 use crate::orders::stronger;
 use crate::view::{
-    Made, behind, is_contradicted, is_out_of_reach, is_overfull, left_of, make_arrival,
-    make_filling, make_go, make_impossible, make_placing, make_turn, make_use,
+    Made, is_contradicted, is_out_of_reach, is_overfull, left_of, make_arrival, make_filling,
+    make_go, make_impossible, make_placing, make_turn, make_use,
 };
 use crate::writing::Writing;
+use crate::writing::facts::{
+    edge_of, ends_of, frame_of, frames_of, order_of, others_of, pair_side, placed_of, strong,
+    wasted_of, weak, weight_of,
+};
 use std::alloc::AllocError;
-use tsn_bounds::literal::{Literal, literal_at};
+use tsn_bounds::literal::Literal;
 use tsn_bounds::number::{NONE, index_at, push, sum};
 use tsn_bounds::reason::Deed;
 use tsn_bounds::record::places_of;
-use tsn_cert::motion::MAX_FRAMES;
-use tsn_cert::{
-    Edge, Filling as Filled, Frames, Move, Order, Orders, Placing as Placed, Sequence,
-    Wasting as Wasted,
-};
-use tsn_model::Frame;
+use tsn_cert::{Filling as Filled, Move, Order};
 
 impl Writing<'_> {
-    fn numbers(&mut self, is_ground: bool) -> &mut [i64] {
-        if is_ground {
-            &mut self.ground
-        } else {
-            &mut self.view
-        }
-    }
-
     pub(super) fn write_deed(
         &mut self,
         deed: Deed,
@@ -54,15 +45,15 @@ impl Writing<'_> {
         is_ground: bool,
         is_lean: bool,
     ) -> Result<Made, AllocError> {
-        let pair = self.pair_side(gap.bound);
+        let known = self.known;
+        let pair = pair_side(known.times, gap.bound);
         let Some(conflict) = self.order_for(gap, is_ground, is_lean)? else {
             return Ok(Made::Wrong);
         };
-        let order = self.order(pair, conflict);
-        push(&mut self.moves, Move::Go(order))?;
-        let weight = self.weight(pair, conflict);
-        let known = self.known;
-        Ok(make_go(known, self.numbers(is_ground), gap.bound, weight))
+        let order = order_of(&known.table, pair, conflict);
+        push(&mut self.script.moves, Move::Go(order))?;
+        let weight = weight_of(&known.table, pair, conflict);
+        Ok(make_go(known, self.views.numbers(is_ground), gap.bound, weight))
     }
 
     // The conflict by whose order a literal of a gap is used: that which asks for most of those there are, and which, unless it's to be
@@ -73,13 +64,14 @@ impl Writing<'_> {
         is_ground: bool,
         is_lean: bool,
     ) -> Result<Option<u32>, AllocError> {
-        let pair = self.pair_side(gap.bound);
-        let strong = self.strong(gap);
-        let most = self.most(pair, is_ground);
+        let known = self.known;
+        let pair = pair_side(known.times, gap.bound);
+        let strong = strong(known, gap);
+        let most = self.views.most(pair, is_ground);
         if most != NONE && (is_lean || stronger(pair, most, strong) == most) {
             return Ok(Some(most));
         }
-        let number = self.known.block_number(gap);
+        let number = known.block_number(gap);
         if self.ensure(pair, strong, number, is_ground)? {
             Ok(Some(strong))
         } else {
@@ -87,26 +79,65 @@ impl Writing<'_> {
         }
     }
 
+    // Sees to it that there is the order of a conflict of a block, by one that asks for no less, or by going over the block. False where
+    // that can't be.
+    fn ensure(
+        &mut self,
+        pair: usize,
+        conflict: u32,
+        number: usize,
+        is_ground: bool,
+    ) -> Result<bool, AllocError> {
+        if self.follow(pair, conflict, is_ground)? {
+            return Ok(true);
+        }
+        let table = &self.known.table;
+        let (weak, strong) = ends_of(table.block(number), pair);
+        if !self.follow(pair, weak, is_ground)? {
+            return Ok(false);
+        }
+        self.script.cross(table, number)?;
+        self.views.gain(pair, strong, is_ground)?;
+        self.follow(pair, conflict, is_ground)
+    }
+
+    // The order of a conflict by one that asks for no less, if there is one.
+    fn follow(&mut self, pair: usize, conflict: u32, is_ground: bool) -> Result<bool, AllocError> {
+        if self.views.has(pair, conflict, is_ground) {
+            return Ok(true);
+        }
+        let most = self.views.most(pair, is_ground);
+        if most == NONE || stronger(pair, most, conflict) != most {
+            return Ok(false);
+        }
+        let table = &self.known.table;
+        let known = order_of(table, pair, most);
+        let weaker = order_of(table, pair, conflict);
+        push(&mut self.script.moves, Move::Follow(known, weaker))?;
+        self.views.gain(pair, conflict, is_ground)?;
+        Ok(true)
+    }
+
     // That the other side of a block can't be met: that of the conflict that others go by, where the view says so.
     fn write_turn(&mut self, gap: Literal, is_ground: bool) -> Result<Made, AllocError> {
         let known = self.known;
-        let pair = self.pair_side(gap.bound);
-        let mut conflict = self.strong(gap);
-        let other = self.weight(pair ^ 1, conflict);
-        if !is_out_of_reach(known, self.numbers(is_ground), gap, other) {
-            conflict = self.weak(gap);
+        let pair = pair_side(known.times, gap.bound);
+        let mut conflict = strong(known, gap);
+        let other = weight_of(&known.table, pair ^ 1, conflict);
+        if !is_out_of_reach(known, self.views.numbers(is_ground), gap, other) {
+            conflict = weak(known, gap);
         }
-        let order = self.order(pair, conflict);
-        push(&mut self.moves, Move::Turn(order))?;
-        self.gain_order(pair, conflict, is_ground)?;
-        let weight = self.weight(pair ^ 1, conflict);
-        Ok(make_turn(known, self.numbers(is_ground), gap, weight))
+        let order = order_of(&known.table, pair, conflict);
+        push(&mut self.script.moves, Move::Turn(order))?;
+        self.views.gain(pair, conflict, is_ground)?;
+        let weight = weight_of(&known.table, pair ^ 1, conflict);
+        Ok(make_turn(known, self.views.numbers(is_ground), gap, weight))
     }
 
     fn write_use(&mut self, shown: usize, is_ground: bool) -> Result<Made, AllocError> {
         let known = self.known;
         let clause = index_at(&self.numbers, shown);
-        let left = left_of(known, self.numbers(is_ground), shown);
+        let left = left_of(known, self.views.numbers(is_ground), shown);
         let (false, Ok(left)) = (clause == NONE, left) else {
             return Ok(Made::Wrong);
         };
@@ -115,28 +146,28 @@ impl Writing<'_> {
                 return Ok(Made::Wrong);
             }
         }
-        push(&mut self.moves, Move::Use(clause as usize))?;
+        push(&mut self.script.moves, Move::Use(clause as usize))?;
         if let Some(literal) = left {
             self.gain(literal, is_ground)?;
         }
-        Ok(make_use(known, self.numbers(is_ground), left))
+        Ok(make_use(known, self.views.numbers(is_ground), left))
     }
 
     // Sees to it that the order is there that contradicts a literal, where its number is.
     fn is_order_there(&mut self, literal: Literal, is_ground: bool) -> Result<bool, AllocError> {
-        if literal.bound < self.known.times || !is_contradicted(self.numbers(is_ground), literal) {
+        let known = self.known;
+        if literal.bound < known.times || !is_contradicted(self.views.numbers(is_ground), literal) {
             return Ok(true);
         }
-        let pair = self.pair_side(literal.bound) ^ 1;
-        let conflict = self.strong(literal);
-        let number = self.known.block_number(literal);
-        self.ensure(pair, conflict, number, is_ground)
+        let pair = pair_side(known.times, literal.bound) ^ 1;
+        let number = known.block_number(literal);
+        self.ensure(pair, strong(known, literal), number, is_ground)
     }
 
     fn write_arrival(&mut self, stream: usize, is_ground: bool) -> Result<Made, AllocError> {
-        push(&mut self.moves, Move::Arrive(stream))?;
+        push(&mut self.script.moves, Move::Arrive(stream))?;
         let known = self.known;
-        Ok(make_arrival(known, self.numbers(is_ground), stream))
+        Ok(make_arrival(known, self.views.numbers(is_ground), stream))
     }
 
     fn write_placing(&mut self, number: usize, is_ground: bool) -> Result<Made, AllocError> {
@@ -150,31 +181,16 @@ impl Writing<'_> {
             return Ok(Made::Wrong);
         };
         let list = places_of(places, placing.others);
-        let link = placing.link as usize;
-        let others = self.frames_of(link, list)?;
-        let some = self.frames_of(link, behind(list, placing.idle))?;
-        let (Some(others), Some(some)) = (others, some) else {
+        let Some(placed) = placed_of(self.alloc, &known.table, placing, list)? else {
             return Ok(Made::Wrong);
         };
-        let placed = Placed {
-            link: known.table.link_number(link),
-            frame: self.frame_of(link, placing.place),
-            others,
-            some,
+        let made = if placing.side == 0 {
+            Move::Last(placed)
+        } else {
+            Move::First(placed)
         };
-        self.push_placed(placed, placing.side)?;
-        Ok(make_placing(known, self.numbers(is_ground), placing, list))
-    }
-
-    fn push_placed(&mut self, placed: Placed, side: u32) -> Result<(), AllocError> {
-        push(
-            &mut self.moves,
-            if side == 0 {
-                Move::Last(placed)
-            } else {
-                Move::First(placed)
-            },
-        )
+        push(&mut self.script.moves, made)?;
+        Ok(make_placing(known, self.views.numbers(is_ground), placing, list))
     }
 
     fn write_packing(&mut self, number: usize, is_ground: bool) -> Result<Made, AllocError> {
@@ -184,7 +200,7 @@ impl Writing<'_> {
         };
         let link = packing.link as usize;
         let list = places_of(&known.record.places, packing.frames);
-        if is_overfull(known, self.numbers(is_ground), link, list) {
+        if is_overfull(known, self.views.numbers(is_ground), link, list) {
             self.write_overfull(link, list, is_ground)
         } else {
             Ok(Made::Wrong)
@@ -198,12 +214,12 @@ impl Writing<'_> {
         is_ground: bool,
     ) -> Result<Made, AllocError> {
         let known = self.known;
-        let Some(frames) = self.frames_of(link, list)? else {
+        let Some(frames) = frames_of(self.alloc, &known.table, link, list)? else {
             return Ok(Made::Wrong);
         };
         let number = known.table.link_number(link);
-        push(&mut self.moves, Move::Pack(number, frames))?;
-        Ok(make_impossible(known, self.numbers(is_ground)))
+        push(&mut self.script.moves, Move::Pack(number, frames))?;
+        Ok(make_impossible(known, self.views.numbers(is_ground)))
     }
 
     fn write_filling(&mut self, number: usize, is_ground: bool) -> Result<Made, AllocError> {
@@ -219,20 +235,20 @@ impl Writing<'_> {
         let link = filling.link as usize;
         let frames = places_of(places, filling.frames);
         // A narrower view than that in which sums were found may leave the frames no room, and then no idle time to hold sums against.
-        if is_overfull(known, self.numbers(is_ground), link, frames) {
+        if is_overfull(known, self.views.numbers(is_ground), link, frames) {
             return self.write_overfull(link, frames, is_ground);
         }
-        let Some(others) = self.others_of(link, frames, filling.place)? else {
+        let Some(others) = others_of(self.alloc, &known.table, link, frames, filling.place)? else {
             return Ok(Made::Wrong);
         };
-        let (made, place) = make_filling(known, self.numbers(is_ground), filling, frames);
+        let (made, place) = make_filling(known, self.views.numbers(is_ground), filling, frames);
         if let Some(place) = place {
             let filled = Filled {
                 link: known.table.link_number(link),
-                frame: self.frame_of(link, filling.place),
+                frame: frame_of(&known.table, link, filling.place),
                 others,
-                before: self.edge(link, filling.before),
-                after: self.edge(link, filling.after),
+                before: edge_of(&known.table, link, filling.before),
+                after: edge_of(&known.table, link, filling.after),
                 bound: place.unsigned_abs(),
             };
             self.push_filled(filled, filling.side)?;
@@ -242,38 +258,14 @@ impl Writing<'_> {
 
     fn push_filled(&mut self, filled: Filled, side: u32) -> Result<(), AllocError> {
         if side == 0 {
-            return push(&mut self.moves, Move::Fill(filled));
+            return push(&mut self.script.moves, Move::Fill(filled));
         }
         let turned = Filled {
             before: filled.after,
             after: filled.before,
             ..filled
         };
-        push(&mut self.moves, Move::FillBack(turned))
-    }
-
-    fn edge(&self, link: usize, place: u32) -> Edge {
-        if place == NONE {
-            None
-        } else {
-            Some(self.frame_of(link, place as usize))
-        }
-    }
-
-    // The frames but one.
-    fn others_of(
-        &self,
-        link: usize,
-        places: &[u16],
-        place: usize,
-    ) -> Result<Option<Frames>, AllocError> {
-        let mut others = Vec::new(self.alloc);
-        for other in places {
-            if *other as usize != place {
-                push(&mut others, *other)?;
-            }
-        }
-        self.frames_of(link, &others)
+        push(&mut self.script.moves, Move::FillBack(turned))
     }
 
     fn write_wasting(&mut self, number: usize, is_ground: bool) -> Result<Made, AllocError> {
@@ -283,23 +275,15 @@ impl Writing<'_> {
         };
         let link = wasting.link as usize;
         let list = places_of(&known.record.places, wasting.frames);
-        if is_overfull(known, self.numbers(is_ground), link, list) {
+        if is_overfull(known, self.views.numbers(is_ground), link, list) {
             return self.write_overfull(link, list, is_ground);
         }
-        let Some(frames) = self.frames_of(link, list)? else {
+        let fixed = places_of(&known.record.places, wasting.fixed);
+        let Some(wasted) = wasted_of(self.alloc, &known.table, link, list, fixed)? else {
             return Ok(Made::Wrong);
         };
-        let mut fixed = Vec::new(self.alloc);
-        for place in places_of(&known.record.places, wasting.fixed) {
-            push(&mut fixed, self.frame_of(link, *place as usize))?;
-        }
-        let wasted = Wasted {
-            link: known.table.link_number(link),
-            frames,
-            fixed: Sequence::of(fixed),
-        };
-        push(&mut self.moves, Move::Waste(wasted))?;
-        Ok(make_impossible(known, self.numbers(is_ground)))
+        push(&mut self.script.moves, Move::Waste(wasted))?;
+        Ok(make_impossible(known, self.views.numbers(is_ground)))
     }
 
     // Arcs that lead back to where they begin.
@@ -312,50 +296,34 @@ impl Writing<'_> {
         let known = self.known;
         let gaps = known.record.round(number);
         let mut round = Vec::new(self.alloc);
-        let mut weight = 0i64;
-        for place in 0..gaps.len() {
-            let gap = literal_at(gaps, place);
-            let pair = self.pair_side(gap.bound);
-            let Some(conflict) = self.order_for(gap, is_ground, is_lean)? else {
-                return Ok(Made::Wrong);
-            };
-            weight = sum(weight, self.weight(pair, conflict));
-            push(&mut round, self.order(pair, conflict))?;
+        match self.gather(&mut round, gaps, is_ground, is_lean)? {
+            Some(weight) if weight > 0 => {}
+            _ => return Ok(Made::Wrong),
         }
-        if weight <= 0 || !self.push_round(round)? {
+        if !self.script.push_round(round)? {
             return Ok(Made::Wrong);
         }
-        Ok(make_impossible(known, self.numbers(is_ground)))
+        Ok(make_impossible(known, self.views.numbers(is_ground)))
     }
 
-    pub(super) fn push_round(&mut self, round: Vec<Order>) -> Result<bool, AllocError> {
-        if round.is_empty() || round.len() > 128 {
-            return Ok(false);
+    // The orders of the arcs of gaps, and what they ask for in all. None where one isn't there.
+    fn gather(
+        &mut self,
+        round: &mut Vec<Order>,
+        gaps: &[Literal],
+        is_ground: bool,
+        is_lean: bool,
+    ) -> Result<Option<i64>, AllocError> {
+        let known = self.known;
+        let mut weight = 0i64;
+        for gap in gaps {
+            let pair = pair_side(known.times, gap.bound);
+            let Some(conflict) = self.order_for(*gap, is_ground, is_lean)? else {
+                return Ok(None);
+            };
+            weight = sum(weight, weight_of(&known.table, pair, conflict));
+            push(round, order_of(&known.table, pair, conflict))?;
         }
-        push(&mut self.moves, Move::Round(Orders::of(round)))?;
-        Ok(true)
-    }
-
-    // The frames of places on a link, in their order there. None where there are none.
-    fn frames_of(&self, link: usize, places: &[u16]) -> Result<Option<Frames>, AllocError> {
-        let mut sorted = Vec::new(self.alloc);
-        sorted.extend_from_slice(places)?;
-        sorted.sort_unstable();
-        let mut list = Vec::new(self.alloc);
-        for place in &sorted {
-            push(&mut list, self.frame_of(link, *place as usize))?;
-        }
-        if list.is_empty() || list.len() > MAX_FRAMES {
-            return Ok(None);
-        }
-        Ok(Some(Frames::of(list)))
-    }
-
-    fn frame_of(&self, link: usize, place: usize) -> Frame {
-        let visit = self.known.table.visit(link, place);
-        Frame {
-            stream: visit.stream,
-            shift: visit.shift.unsigned_abs(),
-        }
+        Ok(Some(weight))
     }
 }

@@ -1,32 +1,23 @@
 //! Writes the steps of an argument: those of the ground, and those of clauses that were shown.
 use crate::view::{Made, narrow};
 use crate::writing::Writing;
-use std::alloc::AllocError;
-use tsn_bounds::known::is_impossible;
+use crate::writing::facts::{fact_of, pair_side, strong};
+use crate::writing::views::settle;
+use std::alloc::{AllocError, Global};
+use tsn_bounds::known::{Known, is_impossible};
 use tsn_bounds::literal::Literal;
-use tsn_bounds::number::{index, next, push, put_index};
-use tsn_cert::{Clause, Fact, Moves, Step};
+use tsn_bounds::number::{push, put_index};
+use tsn_cert::Fact;
 
 impl Writing<'_> {
     // Ends the step that changes the ground.
     pub(super) fn write_ground(&mut self) -> Result<(), AllocError> {
-        if self.moves.is_empty() {
+        if self.script.moves.is_empty() {
             return Ok(());
         }
-        let none = Vec::new(self.alloc);
-        self.push_step(none)?;
-        self.settle();
+        self.script.push_step(Vec::new(self.alloc))?;
+        settle(&mut self.views.ground, self.known.span(), self.aim);
         Ok(())
-    }
-
-    pub(super) fn push_step(&mut self, facts: Vec<Fact>) -> Result<(), AllocError> {
-        let mut moves = Vec::new(self.alloc);
-        std::mem::swap(&mut moves, &mut self.moves);
-        let step = Step {
-            clause: Clause::of(facts),
-            moves: Moves::of(moves),
-        };
-        push(&mut self.steps, step)
     }
 
     // A clause that was shown.
@@ -36,15 +27,12 @@ impl Writing<'_> {
         if !self.write_deeds(number, true)? && !self.write_deeds(number, false)? {
             return Ok(false);
         }
-        let mut facts = Vec::new(self.alloc);
-        for literal in literals {
-            push(&mut facts, self.fact(*literal))?;
-        }
-        self.push_step(facts)?;
+        let facts = facts_of(self.alloc, known, literals)?;
+        self.script.push_step(facts)?;
         self.learn(literals)?;
         if !literals.is_empty() {
-            put_index(&mut self.numbers, number, index(self.clauses));
-            self.clauses = next(self.clauses);
+            let clause = self.script.number_clause();
+            put_index(&mut self.numbers, number, clause);
         }
         Ok(true)
     }
@@ -52,40 +40,33 @@ impl Writing<'_> {
     // What the ground learns by a clause.
     fn learn(&mut self, literals: &[Literal]) -> Result<(), AllocError> {
         match literals {
-            [] => std::mem::swap(&mut self.ground, &mut self.view),
+            [] => std::mem::swap(&mut self.views.ground, &mut self.views.view),
             [literal] => {
-                narrow(&mut self.ground, *literal);
+                narrow(&mut self.views.ground, *literal);
                 self.gain(*literal, true)?;
-                self.settle();
+                settle(&mut self.views.ground, self.known.span(), self.aim);
             }
             _ => {}
         }
         Ok(())
     }
 
-    // The view at which the step of a clause begins.
-    fn begin_view(&mut self, number: usize) -> Result<(), AllocError> {
-        for (one, other) in self.view.iter_mut().zip(&self.ground) {
-            *one = *other;
+    // Notes that the ground, or the view, has the order by which a literal is written.
+    pub(super) fn gain(&mut self, literal: Literal, is_ground: bool) -> Result<(), AllocError> {
+        let known = self.known;
+        if literal.bound < known.times {
+            return Ok(());
         }
-        self.orders.clear();
-        for literal in self.known.record.literals(number) {
-            narrow(&mut self.view, literal.opposite());
-            if literal.bound >= self.known.times {
-                let pair = self.pair_side(literal.bound) ^ 1;
-                let conflict = self.strong(*literal);
-                self.orders.gain(pair, conflict)?;
-            }
-        }
-        Ok(())
+        let pair = pair_side(known.times, literal.bound);
+        self.views.gain(pair, strong(known, literal), is_ground)
     }
 
     // The moves by which a clause follows; where it does so, by the orders alone that the view has already. False where it doesn't.
     fn write_deeds(&mut self, number: usize, is_lean: bool) -> Result<bool, AllocError> {
         let known = self.known;
-        self.moves.clear();
-        self.begin_view(number)?;
-        let mut is_over = is_impossible(&self.view, known.times as usize);
+        self.script.moves.clear();
+        self.views.begin(known, known.record.literals(number))?;
+        let mut is_over = is_impossible(&self.views.view, known.times as usize);
         for deed in known.record.deeds(number) {
             if is_over {
                 break;
@@ -98,4 +79,12 @@ impl Writing<'_> {
         }
         Ok(is_over)
     }
+}
+
+fn facts_of(alloc: Global, known: &Known, literals: &[Literal]) -> Result<Vec<Fact>, AllocError> {
+    let mut facts = Vec::new(alloc);
+    for literal in literals {
+        push(&mut facts, fact_of(known, *literal))?;
+    }
+    Ok(facts)
 }
