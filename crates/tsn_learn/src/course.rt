@@ -1,11 +1,14 @@
 //! The order of the questions: a first schedule, then the flowspan, then stream after stream as the
 //! file lists them. A stream whose question takes too long is left, and come back to with what is left
 //! of the budget. Times are in nanoseconds.
+use crate::best::Best;
 use crate::learning::{Budget, CourseNews, Hear};
+use crate::quota::Quota;
 use crate::turn::Turn;
 use std::alloc::{AllocError, Global};
+use tsn_bounds::known::Known;
 use tsn_bounds::literal::Literal;
-use tsn_bounds::number::{at, copy, less, next, put, signed, signed_list, sum, unsigned_list};
+use tsn_bounds::number::{at, less, next, put, signed, sum};
 use tsn_place::effort::effort_for;
 use tsn_place::notice::Notice;
 use tsn_place::placement::Placement;
@@ -26,20 +29,11 @@ const QUICK_WORK: u64 = 2_000;
 pub struct Course {
     pub search: Search,
     pub placement: Placement,
-    // No flowspan is less by what the links have to carry.
-    least: i64,
-    /// The best schedule so far, and its flowspan; more than the cycle where there is none.
-    pub best: Vec<i64>,
-    pub flowspan: i64,
-    // How many conflicts and how much work there may be.
-    last_conflict: u64,
-    last_work: u64,
-    // Where the question of a stream is left.
-    part_conflict: u64,
+    /// The best schedule so far.
+    pub best: Best,
+    quota: Quota,
     // Of how many streams, the first ones, no lesser offset than the best schedule's is in question.
     shown: usize,
-    // For each stream: where the streams before it have their offsets of the best schedule, its own is at least this.
-    lows: Vec<i64>,
 }
 
 /// What became of a course.
@@ -63,22 +57,32 @@ pub fn course_of<H: Hear>(
     hear: &H,
 ) -> Result<Course, AllocError> {
     let mut placement = Placement::of(alloc, timing)?;
-    let least = placement.least_flowspan(alloc)?;
-    let mut best = Best::none(alloc, timing);
+    let best = first_best(alloc, timing, known, &mut placement, hear)?;
+    course_with(alloc, timing, best, budget, placement)
+}
+
+fn first_best<H: Hear>(
+    alloc: Global,
+    timing: &Timing,
+    known: Option<&[u64]>,
+    placement: &mut Placement,
+    hear: &H,
+) -> Result<Best, AllocError> {
+    let mut best = Best::none(alloc, timing, placement.least_flowspan(alloc)?);
     if let Some(offsets) = known {
-        best.take_known(alloc, timing, offsets, &mut placement)?;
+        best.take_known(alloc, timing, offsets, placement)?;
     }
     for work in [QUICK_WORK, effort_for(timing.streams()).work] {
-        if best.flowspan > least {
+        if best.flowspan > best.least {
             let listener = Listener {
                 hear,
-                least,
+                least: best.least,
                 best: best.flowspan,
             };
-            best.place(alloc, timing, &mut placement, work, &listener)?;
+            best.place(alloc, timing, placement, work, &listener)?;
         }
     }
-    course_with(alloc, timing, best, budget, placement, least)
+    Ok(best)
 }
 
 /// A course from a schedule; from none where it's empty. The error says that there was no memory.
@@ -89,8 +93,7 @@ pub fn course_from(
     budget: Budget,
 ) -> Result<Course, AllocError> {
     let placement = Placement::of(alloc, timing)?;
-    let least = placement.least_flowspan(alloc)?;
-    course_with(alloc, timing, best, budget, placement, least)
+    course_with(alloc, timing, best, budget, placement)
 }
 
 fn course_with(
@@ -99,91 +102,27 @@ fn course_with(
     best: Best,
     budget: Budget,
     placement: Placement,
-    least: i64,
 ) -> Result<Course, AllocError> {
-    let mut placement = placement;
-    if !best.offsets.is_empty() {
-        placement.load(&best.offsets)?;
-    }
-    let mut lows = Vec::new(alloc);
-    lows.resize(timing.streams(), 0)?;
     let most = best.flowspan.min(signed(timing.cycle()));
-    Ok(Course {
+    let mut course = Course {
         search: search_of(alloc, timing, most, budget.work)?,
         placement,
-        least,
-        best: best.offsets,
-        flowspan: best.flowspan,
-        last_conflict: budget.conflicts,
-        last_work: budget.work,
-        part_conflict: budget.conflicts,
+        best,
+        quota: Quota::of(budget),
         shown: 0,
-        lows,
-    })
+    };
+    match course.begin(timing.streams()) {
+        Ok(()) => Ok(course),
+        Err(error) => {
+            drop(course);
+            Err(error)
+        }
+    }
 }
 
-/// A schedule and its flowspan; without offsets where none is known.
+/// Hears of schedules before anything is asked; one of this flowspan is the best so far, and none has less than the bound.
 #[derive(Drop)]
-pub struct Best {
-    pub offsets: Vec<i64>,
-    pub flowspan: i64,
-}
-
-impl Best {
-    fn none(alloc: Global, timing: &Timing) -> Best {
-        Best {
-            offsets: Vec::new(alloc),
-            flowspan: sum(signed(timing.cycle()), 1),
-        }
-    }
-
-    // A schedule that was found: it's kept where its flowspan is less.
-    fn take(&mut self, offsets: Vec<i64>, flowspan: i64) {
-        if flowspan < self.flowspan {
-            self.flowspan = flowspan;
-            self.offsets = offsets;
-        }
-    }
-
-    // A schedule that is known: it's kept where it's valid.
-    fn take_known(
-        &mut self,
-        alloc: Global,
-        timing: &Timing,
-        offsets: &[u64],
-        placement: &mut Placement,
-    ) -> Result<(), AllocError> {
-        if timing.is_valid(offsets) {
-            let offsets = signed_list(alloc, offsets)?;
-            placement.load(&offsets)?;
-            self.take(offsets, placement.flowspan());
-        }
-        Ok(())
-    }
-
-    // Looks for a better one by placing.
-    fn place<H: Hear>(
-        &mut self,
-        alloc: Global,
-        timing: &Timing,
-        placement: &mut Placement,
-        work: u64,
-        listener: &Listener<'_, H>,
-    ) -> Result<(), AllocError> {
-        let work = work.wrapping_mul(timing.streams() as u64);
-        if placement.first(listener.least, work, listener)? {
-            let offsets = copy(alloc, placement.schedule())?;
-            if timing.is_valid(&unsigned_list(alloc, &offsets)?) {
-                self.take(offsets, placement.flowspan());
-            }
-        }
-        Ok(())
-    }
-}
-
-// Hears of schedules before anything is asked; one of this flowspan is the best so far, and none has less than the bound.
-#[derive(Drop)]
-struct Listener<'a, H: Hear> {
+pub struct Listener<'a, H: Hear> {
     hear: &'a H,
     least: i64,
     best: i64,
@@ -221,12 +160,11 @@ pub fn search_of(
 }
 
 impl Course {
-    /// The plan, and the budget as far as it's used up, for another course.
-    pub fn plan(&self, alloc: Global) -> Result<Best, AllocError> {
-        Ok(Best {
-            offsets: copy(alloc, &self.best)?,
-            flowspan: self.flowspan,
-        })
+    fn begin(&mut self, streams: usize) -> Result<(), AllocError> {
+        if !self.best.is_none() {
+            self.placement.load(&self.best.offsets)?;
+        }
+        self.best.lows.resize(streams, 0)
     }
 
     /// Asks till it's decided, or the budget is used up.
@@ -235,7 +173,7 @@ impl Course {
         if state != State::Decided {
             return Ok(state);
         }
-        self.give_flowspan()?;
+        give_flowspan(&mut self.search, self.best.flowspan)?;
         for parts in [8, 4, 2, 1] {
             self.lower_offsets(parts, hear)?;
             if self.shown >= self.search.known.table.streams() {
@@ -245,33 +183,25 @@ impl Course {
         Ok(State::Open)
     }
 
-    /// Gives that no later schedule is in question.
-    pub fn give_flowspan(&mut self) -> Result<(), AllocError> {
-        let most = self.flowspan.wrapping_neg();
-        let span = self.search.known.span();
-        let _ = self.search.give(Literal::of(span ^ 1, most))?;
-        Ok(())
-    }
-
     // Finds the least flowspan, from both ends.
     fn lower_flowspan<H: Hear>(&mut self, hear: &H) -> Result<State, AllocError> {
         let streams = self.search.known.table.streams();
-        let mut turn = Turn::of_flowspan(!self.best.is_empty(), streams);
-        self.take_part(1);
+        let mut turn = Turn::of_flowspan(!self.best.is_none(), streams);
+        self.quota.take_part(&mut self.search.pace, 1);
         self.ask_by_links()?;
         for _ in 0..u64::MAX {
             self.tell(hear, None);
             if !self.search.known.is_open {
-                return Ok(self.state_of_end());
+                return Ok(self.best.state_of_end());
             }
             let least = self.search.known.low(streams);
-            if least >= self.flowspan {
+            if least >= self.best.flowspan {
                 return Ok(State::Decided);
             }
-            if self.is_part_over() {
+            if self.quota.is_over(&self.search.pace) {
                 return Ok(State::Open);
             }
-            let most = turn.target(least, self.flowspan);
+            let most = turn.target(least, self.best.flowspan);
             if turn.is_above && self.place_lower(most, turn.tries)? {
                 turn.note_found(less(most, least));
                 continue;
@@ -290,50 +220,30 @@ impl Course {
 
     // A schedule of at most this flowspan, by placing streams anew.
     fn place_lower(&mut self, most: i64, tries: u64) -> Result<bool, AllocError> {
-        if self.best.is_empty() {
+        if self.best.is_none() || !self.placement.lower_to(most, tries)? {
             return Ok(false);
         }
-        if !self.placement.lower_to(most, tries)? {
-            return Ok(false);
-        }
-        self.take_placed()
+        take_placed(&mut self.best, &mut self.search, &self.placement)?;
+        Ok(true)
     }
 
     // Moves the streams of the best schedule to the end and back, which may make it shorter.
     fn shorten(&mut self) -> Result<(), AllocError> {
         self.placement.shorten()?;
-        if self.placement.flowspan() < self.flowspan {
-            self.take_placed()?;
+        if self.placement.flowspan() < self.best.flowspan {
+            take_placed(&mut self.best, &mut self.search, &self.placement)?;
         }
         Ok(())
-    }
-
-    fn take_placed(&mut self) -> Result<bool, AllocError> {
-        self.search.found.clear();
-        self.search
-            .found
-            .extend_from_slice(self.placement.schedule())?;
-        self.take_found();
-        Ok(true)
     }
 
     // Asks for less than what the links have to carry takes: there is nothing, which is found at once where the bounds of offsets say so.
     fn ask_by_links(&mut self) -> Result<(), AllocError> {
         let streams = self.search.known.table.streams();
-        let least = self.least.min(self.flowspan);
+        let least = self.best.least.min(self.best.flowspan);
         if self.search.known.is_open && self.search.known.low(streams) < least {
             let _ = self.ask(streams, less(least, 1), SHARE)?;
         }
         Ok(())
-    }
-
-    // What it means that nothing is in question.
-    fn state_of_end(&self) -> State {
-        if self.best.is_empty() {
-            State::Empty
-        } else {
-            State::Decided
-        }
     }
 
     // Lowers the offsets of the streams that aren't shown, one after another. Each may take one of so many parts of what is left.
@@ -341,9 +251,14 @@ impl Course {
         let mut is_exact = true;
         self.search.drop_premises()?;
         for stream in self.shown..self.search.known.table.streams() {
-            self.take_part(parts);
+            self.quota.take_part(&mut self.search.pace, parts);
             let is_least = self.lower_offset(stream, hear)?;
-            is_exact = self.settle(stream, is_least, is_exact)?;
+            let own = at(&self.best.offsets, stream);
+            settle(&mut self.search, stream, own, is_least, is_exact)?;
+            is_exact = is_exact && is_least;
+            if is_exact {
+                self.shown = next(stream);
+            }
         }
         self.search.drop_premises()
     }
@@ -352,18 +267,15 @@ impl Course {
     fn lower_offset<H: Hear>(&mut self, stream: usize, hear: &H) -> Result<bool, AllocError> {
         let mut turn = Turn::of_offset();
         let mut tried = -1i64;
-        self.raise_placed(stream);
+        raise_placed(&mut self.placement, &self.search.known, stream);
         for _ in 0..u64::MAX {
             self.tell(hear, Some(stream));
-            let mut least = self.known_low(stream);
-            let own = at(&self.best, stream);
-            if let Some(lowest) = self.placement.lowest(stream, self.flowspan) {
-                least = least.max(lowest);
-            }
+            let least = self.known_low(stream);
+            let own = at(&self.best.offsets, stream);
             if least >= own || !self.search.known.is_open {
                 return Ok(true);
             }
-            if self.is_part_over() {
+            if self.quota.is_over(&self.search.pace) {
                 return Ok(false);
             }
             let most = turn.target(least, own);
@@ -378,7 +290,7 @@ impl Course {
             match self.ask(stream, most, turn.share())? {
                 Answered::Yes => turn.note_found(less(most, least)),
                 Answered::No => {
-                    put(&mut self.lows, stream, sum(most, 1));
+                    put(&mut self.best.lows, stream, sum(most, 1));
                     turn.note_none();
                 }
                 Answered::Unknown => turn.note_unknown(),
@@ -387,94 +299,45 @@ impl Course {
         Ok(false)
     }
 
-    // No lesser offsets than those that are shown for good are in question.
-    fn raise_placed(&mut self, from: usize) {
-        for stream in from..self.best.len() {
-            let bound = self.search.known.least(stream);
-            let low = at(&self.search.known.trail.ground, bound as usize);
-            self.placement.raise(stream, low);
-        }
-    }
-
     // A schedule in which a stream starts at this or sooner, by placing streams anew.
     fn place_sooner(&mut self, stream: usize, most: i64) -> Result<bool, AllocError> {
         let asked = Asked {
             stream,
             most,
-            flowspan: self.flowspan,
-            tries: 300u64.wrapping_add(self.best.len() as u64 / 2),
+            flowspan: self.best.flowspan,
+            tries: 300u64.wrapping_add(self.best.offsets.len() as u64 / 2),
         };
         if !self.placement.repair(asked)? {
             return Ok(false);
         }
-        self.take_placed()
+        take_placed(&mut self.best, &mut self.search, &self.placement)?;
+        Ok(true)
     }
 
-    // What the stream's offset is no less than, by the premises.
-    fn known_low(&self, stream: usize) -> i64 {
-        let low = self.search.known.low(stream);
-        if self.search.premises.is_empty() {
-            low
-        } else {
-            low.max(at(&self.lows, stream))
+    // What the stream's offset is no less than, by the premises, and by the streams before it alone.
+    fn known_low(&mut self, stream: usize) -> i64 {
+        let mut low = self.search.known.low(stream);
+        if !self.search.premises.is_empty() {
+            low = low.max(at(&self.best.lows, stream));
         }
-    }
-
-    // From here on the stream's offset is that of the best schedule: no greater for good, as long as all streams before it are shown,
-    // else by a premise; no less by a premise, where that isn't shown. Whether all up to this one are shown.
-    fn settle(
-        &mut self,
-        stream: usize,
-        is_least: bool,
-        is_exact: bool,
-    ) -> Result<bool, AllocError> {
-        let own = at(&self.best, stream);
-        let least = self.search.known.least(stream);
-        let no_greater = Literal::of(least ^ 1, own.wrapping_neg());
-        if is_exact {
-            let _ = self.search.give(no_greater)?;
-        } else {
-            self.search.add_premise(no_greater)?;
+        match self.placement.lowest(stream, self.best.flowspan) {
+            Some(lowest) => low.max(lowest),
+            None => low,
         }
-        if !is_least {
-            self.search.add_premise(Literal::of(least, own))?;
-        } else if is_exact {
-            self.shown = next(stream);
-        }
-        Ok(is_exact && is_least)
     }
 
     // Asks for a schedule in which a stream's offset, or the flowspan behind all streams, is at most this; it's the best so far where
     // there is one.
     fn ask(&mut self, stream: usize, most: i64, share: u64) -> Result<Answered, AllocError> {
-        let literal = Literal::of(self.search.known.least(stream) ^ 1, most.wrapping_neg());
-        let left = self
-            .part_conflict
-            .saturating_sub(self.search.pace.conflicts);
-        self.search.set_sides(&self.best);
-        self.search.add_premise(literal)?;
-        let answered = self.search.ask(share.min(left))?;
-        let _ = self.search.premises.pop();
+        let share = share.min(self.quota.left(&self.search.pace));
+        self.search.set_sides(&self.best.offsets);
+        let answered = ask_most(&mut self.search, stream, most, share)?;
         if answered == Answered::Yes {
-            self.take_found();
-            self.placement.load(&self.best)?;
+            self.best
+                .take_found(&mut self.search.found, &self.search.known.table);
+            self.placement.load(&self.best.offsets)?;
         }
         Ok(answered)
-    }
-
-    // What was known of streams behind the first that has another offset now isn't any longer.
-    fn take_found(&mut self) {
-        let mut is_changed = false;
-        for stream in 0..self.search.found.len() {
-            if is_changed {
-                put(&mut self.lows, stream, 0);
-            }
-            is_changed |= at(&self.search.found, stream) != at(&self.best, stream);
-        }
-        std::mem::swap(&mut self.best, &mut self.search.found);
-        self.flowspan = self
-            .flowspan
-            .min(self.search.known.table.flowspan(&self.best));
     }
 
     /// Asks for one less than the plan's flowspan, and than each of its offsets. Whether there is none. What was met by the last
@@ -488,19 +351,18 @@ impl Course {
 
     fn ask_below<H: Hear>(&mut self, hear: &H) -> Result<bool, AllocError> {
         let streams = self.search.known.table.streams();
-        self.take_part(1);
-        self.give_flowspan()?;
-        if !self.is_none_below(streams, self.flowspan)? {
+        self.quota.take_part(&mut self.search.pace, 1);
+        give_flowspan(&mut self.search, self.best.flowspan)?;
+        if !self.is_none_below(streams, self.best.flowspan)? {
             return Ok(false);
         }
         for stream in 0..streams {
             self.tell(hear, Some(stream));
-            let own = at(&self.best, stream);
+            let own = at(&self.best.offsets, stream);
             if !self.is_none_below(stream, own)? {
                 return Ok(false);
             }
-            let greatest = self.search.known.least(stream) ^ 1;
-            let _ = self.search.give(Literal::of(greatest, own.wrapping_neg()))?;
+            give_most(&mut self.search, stream, own)?;
         }
         Ok(true)
     }
@@ -512,43 +374,92 @@ impl Course {
         Ok(self.ask(stream, less(most, 1), u64::MAX)? == Answered::No)
     }
 
-    // The next questions may take one of so many parts of what is left.
-    fn take_part(&mut self, parts: u64) {
-        let pace = &mut self.search.pace;
-        let work = self.last_work.saturating_sub(pace.work);
-        let conflicts = self.last_conflict.saturating_sub(pace.conflicts);
-        pace.last_work = pace.work.saturating_add(part_of(work, parts));
-        self.part_conflict = pace.conflicts.saturating_add(part_of(conflicts, parts));
-    }
-
-    fn is_part_over(&self) -> bool {
-        self.search.pace.is_used_up(self.part_conflict)
-    }
-
     fn tell<H: Hear>(&self, hear: &H, stream: Option<usize>) {
-        hear.hear(CourseNews {
-            flowspan: if self.best.is_empty() {
-                None
-            } else {
-                Some(self.flowspan.unsigned_abs())
-            },
-            bound: self.bound(),
-            stream,
-            conflicts: self.search.pace.conflicts,
-            work: self.search.pace.work,
-        });
-    }
-
-    /// No valid schedule has a lesser flowspan.
-    pub fn bound(&self) -> u64 {
-        let streams = self.search.known.table.streams();
-        self.search.known.low(streams).unsigned_abs()
+        hear.hear(news_of(&self.search, self.best.told(), stream));
     }
 }
 
-fn part_of(whole: u64, parts: u64) -> u64 {
-    match whole.checked_div(parts) {
-        Some(part) => part,
-        None => whole,
+/// How far a search has got, with the least flowspan so far.
+pub fn news_of(search: &Search, flowspan: Option<u64>, stream: Option<usize>) -> CourseNews {
+    CourseNews {
+        flowspan,
+        bound: bound_of(&search.known),
+        stream,
+        conflicts: search.pace.conflicts,
+        work: search.pace.work,
     }
+}
+
+/// No valid schedule has a lesser flowspan.
+pub fn bound_of(known: &Known) -> u64 {
+    known.low(known.table.streams()).unsigned_abs()
+}
+
+// The schedule that was placed is the best one.
+fn take_placed(
+    best: &mut Best,
+    search: &mut Search,
+    placement: &Placement,
+) -> Result<(), AllocError> {
+    search.found.clear();
+    search.found.extend_from_slice(placement.schedule())?;
+    best.take_found(&mut search.found, &search.known.table);
+    Ok(())
+}
+
+// No lesser offsets than those that are shown for good are in question.
+fn raise_placed(placement: &mut Placement, known: &Known, from: usize) {
+    for stream in from..known.table.streams() {
+        let low = at(&known.trail.ground, known.least(stream) as usize);
+        placement.raise(stream, low);
+    }
+}
+
+// Gives that no later schedule is in question.
+fn give_flowspan(search: &mut Search, flowspan: i64) -> Result<(), AllocError> {
+    let span = search.known.span();
+    let _ = search.give(Literal::of(span ^ 1, flowspan.wrapping_neg()))?;
+    Ok(())
+}
+
+// Gives that no greater offset of a stream is in question.
+fn give_most(search: &mut Search, stream: usize, most: i64) -> Result<(), AllocError> {
+    let least = search.known.least(stream);
+    let _ = search.give(Literal::of(least ^ 1, most.wrapping_neg()))?;
+    Ok(())
+}
+
+// From here on the stream's offset is this: no greater for good, as long as all streams before it are shown, else by a premise; no less
+// by a premise, where that isn't shown.
+fn settle(
+    search: &mut Search,
+    stream: usize,
+    own: i64,
+    is_least: bool,
+    is_exact: bool,
+) -> Result<(), AllocError> {
+    let least = search.known.least(stream);
+    if is_exact {
+        give_most(search, stream, own)?;
+    } else {
+        search.add_premise(Literal::of(least ^ 1, own.wrapping_neg()))?;
+    }
+    if !is_least {
+        search.add_premise(Literal::of(least, own))?;
+    }
+    Ok(())
+}
+
+// Asks for a schedule in which a stream's offset, or the flowspan behind all streams, is at most this, by no more than so many conflicts.
+fn ask_most(
+    search: &mut Search,
+    stream: usize,
+    most: i64,
+    share: u64,
+) -> Result<Answered, AllocError> {
+    let literal = Literal::of(search.known.least(stream) ^ 1, most.wrapping_neg());
+    search.add_premise(literal)?;
+    let answered = search.ask(share)?;
+    let _ = search.premises.pop();
+    Ok(answered)
 }

@@ -1,7 +1,8 @@
 //! Searches for the first of the optimal schedules; and once more with the plan known, for a shorter argument. Times are in nanoseconds.
-use crate::course::{Course, State, course_from, course_of};
+use crate::best::Best;
+use crate::course::{Course, State, bound_of, course_from, course_of};
 use std::alloc::{AllocError, Global};
-use tsn_bounds::number::{copy, sum, unsigned_list};
+use tsn_bounds::number::{sum, unsigned_list};
 use tsn_cert::{Argument, Goal};
 use tsn_model::NoMemory;
 use tsn_solver::pace::Pace;
@@ -117,11 +118,11 @@ impl Course {
         hear: &H,
     ) -> Result<LearnAnswer, AllocError> {
         match self.decide(hear)? {
-            State::Empty => self.answer_none(alloc, budget),
-            State::Open => self.answer_open(alloc, timing, budget),
+            State::Empty => answer_none(alloc, &mut self.search, budget),
+            State::Open => answer_open(alloc, &mut self.search, &self.best, timing, budget),
             State::Decided => {
                 let again = self.again(alloc, timing, budget, hear)?;
-                self.answer_first(alloc, timing, again, budget)
+                answer_first(alloc, &mut self.search, &self.best, timing, again, budget)
             }
         }
     }
@@ -134,7 +135,7 @@ impl Course {
         budget: Budget,
         hear: &H,
     ) -> Result<Option<Argument>, AllocError> {
-        let plan = self.plan(alloc)?;
+        let plan = self.best.copy(alloc)?;
         let rest = budget.to_end_by(&self.search.pace);
         let mut course = course_from(alloc, timing, plan, rest)?;
         course.search.pace = self.search.pace;
@@ -151,95 +152,98 @@ impl Course {
         if !self.confirm(hear)? {
             return Ok(None);
         }
-        self.argue_first(alloc)
-    }
-
-    fn argue_first(&mut self, alloc: Global) -> Result<Option<Argument>, AllocError> {
-        let plan = copy(alloc, &self.best)?;
-        let aim = Aim {
-            goal: Goal::First,
-            plan: &plan,
-            flowspan: self.flowspan,
-        };
-        argue(alloc, &mut self.search, aim)
-    }
-
-    fn answer_first(
-        &mut self,
-        alloc: Global,
-        timing: &Timing,
-        again: Option<Argument>,
-        budget: Budget,
-    ) -> Result<LearnAnswer, AllocError> {
-        let own = self.argue_first(alloc)?;
-        let offsets = unsigned_list(alloc, &self.best)?;
-        let conflicts = self.search.pace.conflicts;
-        match shorter(own, again) {
-            Some(argument) if argument.steps.list().len() <= budget.steps => {
-                Ok(LearnAnswer::First(LearnedPlan {
-                    offsets,
-                    flowspan: self.flowspan.unsigned_abs(),
-                    argument,
-                    conflicts,
-                }))
-            }
-            _ => self.answer_open(alloc, timing, budget),
-        }
-    }
-
-    fn answer_none(&mut self, alloc: Global, budget: Budget) -> Result<LearnAnswer, AllocError> {
-        let aim = Aim {
-            goal: Goal::None,
-            plan: &[],
-            flowspan: sum(self.search.known.table.most, 1),
-        };
-        let argument = argue(alloc, &mut self.search, aim)?;
-        Ok(LearnAnswer::None {
-            argument: within(argument, budget),
-            conflicts: self.search.pace.conflicts,
-        })
-    }
-
-    fn answer_open(
-        &mut self,
-        alloc: Global,
-        timing: &Timing,
-        budget: Budget,
-    ) -> Result<LearnAnswer, AllocError> {
-        let offsets = unsigned_list(alloc, &self.best)?;
-        let bound = self.bound();
-        let mut argument = None;
-        if timing.is_valid(&offsets) && bound >= self.flowspan.unsigned_abs() {
-            argument = self.argue_least(alloc)?;
-        }
-        Ok(LearnAnswer::GaveUp(BestSoFar {
-            schedule: if timing.is_valid(&offsets) {
-                Some(offsets)
-            } else {
-                None
-            },
-            bound,
-            argument: within(argument, budget),
-            conflicts: self.search.pace.conflicts,
-        }))
-    }
-
-    fn argue_least(&mut self, alloc: Global) -> Result<Option<Argument>, AllocError> {
-        let aim = Aim {
-            goal: Goal::Least,
-            plan: &[],
-            flowspan: self.flowspan,
-        };
-        argue(alloc, &mut self.search, aim)
+        argue_first(alloc, &mut self.search, &self.best)
     }
 }
 
-/// The argument for an aim. None where what the search found out doesn't show it. The error says that there was no memory.
-pub fn argue(
+fn argue_first(
     alloc: Global,
     search: &mut Search,
-    aim: Aim<'_>,
+    best: &Best,
 ) -> Result<Option<Argument>, AllocError> {
+    let aim = Aim {
+        goal: Goal::First,
+        plan: &best.offsets,
+        flowspan: best.flowspan,
+    };
+    argue(alloc, search, aim)
+}
+
+fn answer_first(
+    alloc: Global,
+    search: &mut Search,
+    best: &Best,
+    timing: &Timing,
+    again: Option<Argument>,
+    budget: Budget,
+) -> Result<LearnAnswer, AllocError> {
+    let own = argue_first(alloc, search, best)?;
+    match within(shorter(own, again), budget) {
+        Some(argument) => Ok(LearnAnswer::First(LearnedPlan {
+            offsets: unsigned_list(alloc, &best.offsets)?,
+            flowspan: best.flowspan.unsigned_abs(),
+            argument,
+            conflicts: search.pace.conflicts,
+        })),
+        None => answer_open(alloc, search, best, timing, budget),
+    }
+}
+
+fn answer_none(
+    alloc: Global,
+    search: &mut Search,
+    budget: Budget,
+) -> Result<LearnAnswer, AllocError> {
+    let aim = Aim {
+        goal: Goal::None,
+        plan: &[],
+        flowspan: sum(search.known.table.most, 1),
+    };
+    let argument = argue(alloc, search, aim)?;
+    Ok(LearnAnswer::None {
+        argument: within(argument, budget),
+        conflicts: search.pace.conflicts,
+    })
+}
+
+fn answer_open(
+    alloc: Global,
+    search: &mut Search,
+    best: &Best,
+    timing: &Timing,
+    budget: Budget,
+) -> Result<LearnAnswer, AllocError> {
+    let offsets = unsigned_list(alloc, &best.offsets)?;
+    let is_valid = timing.is_valid(&offsets);
+    let bound = bound_of(&search.known);
+    let mut argument = None;
+    if is_valid && bound >= best.flowspan.unsigned_abs() {
+        argument = argue_least(alloc, search, best.flowspan)?;
+    }
+    Ok(LearnAnswer::GaveUp(BestSoFar {
+        schedule: if is_valid { Some(offsets) } else { None },
+        bound,
+        argument: within(argument, budget),
+        conflicts: search.pace.conflicts,
+    }))
+}
+
+/// The argument that no schedule has a lesser flowspan than this.
+pub fn argue_least(
+    alloc: Global,
+    search: &mut Search,
+    flowspan: i64,
+) -> Result<Option<Argument>, AllocError> {
+    let aim = Aim {
+        goal: Goal::Least,
+        plan: &[],
+        flowspan,
+    };
+    argue(alloc, search, aim)
+}
+
+// The argument for an aim. None where what the search found out doesn't show it.
+fn argue(alloc: Global, search: &mut Search, aim: Aim<'_>) -> Result<Option<Argument>, AllocError> {
     search.go_back(0)?;
     write_argument(alloc, &mut search.known, aim)
 }

@@ -1,17 +1,16 @@
 //! Shows that no schedule has a lesser flowspan than one that is known. Times are in nanoseconds.
 ghost use Rattle.std.specs.Prelude.{◌≤◌, ◌-◌};
 
-use crate::course::search_of;
-use crate::learning::{Budget, CourseNews, Hear, argue, within};
+use crate::course::{news_of, search_of};
+use crate::learning::{Budget, CourseNews, Hear, argue_least, within};
 use std::alloc::{AllocError, Global};
 use tsn_bounds::literal::Literal;
 use tsn_bounds::number::{at, less, signed, signed_list, sum, unsigned_list};
-use tsn_cert::{Argument, Goal};
+use tsn_cert::Argument;
 use tsn_model::NoMemory;
 use tsn_solver::ask::Answered;
 use tsn_solver::search::Search;
 use tsn_timing::Timing;
-use tsn_translate::writing::Aim;
 
 // After how many conflicts it is told how far a proof has got.
 const ROUND: u64 = 2000;
@@ -101,14 +100,7 @@ fn most_next(budget: Budget, conflicts: u64) -> u64
 }
 
 fn news(search: &Search, flowspan: i64) -> CourseNews {
-    let streams = search.known.table.streams();
-    CourseNews {
-        flowspan: Some(flowspan.unsigned_abs()),
-        bound: search.known.low(streams).unsigned_abs(),
-        stream: None,
-        conflicts: search.pace.conflicts,
-        work: search.pace.work,
-    }
+    news_of(search, Some(flowspan.unsigned_abs()), None)
 }
 
 fn answer_better(search: &Search) -> Result<LeastAnswer, AllocError> {
@@ -122,12 +114,7 @@ fn answer_least(
     flowspan: i64,
     budget: Budget,
 ) -> Result<LeastAnswer, AllocError> {
-    let aim = Aim {
-        goal: Goal::Least,
-        plan: &[],
-        flowspan,
-    };
-    let argument = argue(search.alloc, search, aim)?;
+    let argument = argue_least(search.alloc, search, flowspan)?;
     Ok(match within(argument, budget) {
         Some(argument) => LeastAnswer::Least {
             argument,

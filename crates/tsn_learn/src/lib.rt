@@ -3,9 +3,11 @@
 //! answer counts before its argument is checked.
 #![tactic(auto)]
 
+mod best;
 mod course;
 mod learning;
 mod least;
+mod quota;
 mod turn;
 
 pub use learning::{BestSoFar, Budget, CourseNews, Hear, LearnAnswer, LearnedPlan, learn};
