@@ -7,4 +7,3 @@ pub mod Order
 pub mod ByStream
 pub mod Meeting
 pub mod Raised
-pub mod More

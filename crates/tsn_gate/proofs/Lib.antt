@@ -16,4 +16,3 @@ pub mod Sparing
 pub mod SingleFrames
 pub mod SmallGates
 pub mod Exchanges
-pub mod More

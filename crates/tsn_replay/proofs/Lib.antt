@@ -31,4 +31,3 @@ pub mod Progress
 pub mod PassageStarts
 pub mod BackgroundStarts
 pub mod SmallRuns
-pub mod More

@@ -1,6 +1,6 @@
 use Rattle.std.proofs.Common.{pos, rules}
 use Rattle.tsn_conflict.specs.Rows.{triple_on}
-use Rattle.tsn_conflict.proofs.More.{mapped_behind}
+use Rattle.tsn_model.proofs.More.{mapped_behind}
 use Rattle.tsn_conflict.proofs.listing.push_lags.Goals as goal
 
 pub loop-lag-preserved : goal.loop-lag-preserved

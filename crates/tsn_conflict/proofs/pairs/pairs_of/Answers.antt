@@ -1,6 +1,6 @@
 use Rattle.tsn_conflict.specs.Rows.{uses_in}
 use Rattle.tsn_conflict.specs.Pairs.{pair_in}
-use Rattle.tsn_conflict.proofs.More.{mapped_more}
+use Rattle.tsn_model.proofs.More.{mapped_more}
 use Rattle.tsn_conflict.proofs.pairs.pairs_of.Goals as goal
 
 pub loop-triple-preserved : goal.loop-triple-preserved

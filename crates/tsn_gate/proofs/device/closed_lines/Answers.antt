@@ -1,6 +1,6 @@
 use Rattle.std.proofs.Common.{ap}
 use Rattle.tsn_gate.specs.Device.{closed_text}
-use Rattle.tsn_gate.proofs.More.{written_more}
+use Rattle.tsn_model.proofs.More.{written_more}
 use Rattle.tsn_gate.proofs.device.closed_lines.Goals as goal
 
 pub loop-list-preserved : goal.loop-list-preserved

@@ -1,6 +1,6 @@
 use Rattle.std.proofs.Common.{ap}
 use Rattle.tsn_gate.specs.Device.{device_line}
-use Rattle.tsn_gate.proofs.More.{written_more}
+use Rattle.tsn_model.proofs.More.{written_more}
 use Rattle.tsn_gate.proofs.device.device_lines.Goals as goal
 
 pub loop-list-preserved : goal.loop-list-preserved

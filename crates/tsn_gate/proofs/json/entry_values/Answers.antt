@@ -2,7 +2,7 @@ use Rattle.std.proofs.Common.{ap, map, ◌∙◌}
 use Rattle.std.proofs.lemmas.List.{map-append}
 use Rattle.serde_json.specs.View.{view}
 use Rattle.tsn_gate.specs.Json.{entry_value}
-use Rattle.tsn_gate.proofs.More.{mapped_more}
+use Rattle.tsn_model.proofs.More.{mapped_more}
 use Rattle.tsn_gate.proofs.json.entry_values.Goals as goal
 
 pub loop-entry-preserved : goal.loop-entry-preserved

@@ -1,5 +1,5 @@
 use Rattle.std.proofs.Common.{refl}
-use Rattle.tsn_gate.proofs.More.{mapped_more}
+use Rattle.tsn_model.proofs.More.{mapped_more}
 use Rattle.tsn_gate.proofs.slack.starts_of.Goals as goal
 
 pub loop-window-preserved : goal.loop-window-preserved

@@ -1,7 +1,18 @@
--- Lists and texts that grow by what one element more makes.
-use Rattle.std.proofs.Common.{◌≡◌, ℕ, ◌+◌, ◌<◌, List, [], ◌++◌, map, take, length, slice_index_or, ap, refl, ◌∙◌, sym}
+-- Lists and texts that a round of a loop makes longer by what one element more makes.
+use Rattle.std.proofs.Common.{◌≡◌, ℕ, ◌+◌, ◌<◌, List, [], ◌∷◌, ◌++◌, map, take, length, slice_index_or, ap, refl, ◌∙◌, sym}
 use Rattle.std.specs.List.{flat_map}
-use Rattle.std.proofs.lemmas.List.{append_assoc, flat_map_more, map-append, take_more}
+use Rattle.std.proofs.lemmas.List.{append_assoc, flat_map_more, map-append, map_more, take_more}
+
+pub mapped_more : {X Y : Type 0} (f : X → Y) (xs : List X) (i : ℕ) (d : X) (before after : List Y) (y : Y) → i < length xs → before ≡ map f (take i xs)
+    → after ≡ before ++ y ∷ [] → y ≡ f (slice_index_or xs i d) → after ≡ map f (take (i + 1) xs)
+mapped_more f xs i d before after y below is pushed last =
+    pushed ∙ ap (λ (ys : List _). ys ++ y ∷ []) is ∙ ap (λ z. map f (take i xs) ++ z ∷ []) last ∙ sym (map_more f xs i d below)
+
+pub mapped_behind : {X Y : Type 0} (f : X → Y) (first : List Y) (xs : List X) (i : ℕ) (d : X) (before after : List Y) (y : Y) → i < length xs
+    → before ≡ first ++ map f (take i xs) → after ≡ before ++ y ∷ [] → y ≡ f (slice_index_or xs i d) → after ≡ first ++ map f (take (i + 1) xs)
+mapped_behind f first xs i d before after y below is pushed last =
+    pushed ∙ ap (λ (ys : List _). ys ++ y ∷ []) is ∙ append_assoc first (map f (take i xs)) (y ∷ [])
+    ∙ ap (λ (ys : List _). first ++ ys) (mapped_more f xs i d (map f (take i xs)) (map f (take i xs) ++ y ∷ []) y below refl refl last)
 
 pub written_more : {X : Type 0} (f : X → List ℕ) (xs : List X) (i : ℕ) (d : X) (before after piece : List ℕ) → i < length xs → before ≡ flat_map f (take i xs)
     → after ≡ before ++ piece → piece ≡ f (slice_index_or xs i d) → after ≡ flat_map f (take (i + 1) xs)
