@@ -68,15 +68,21 @@ pub fn judge(
 {
     match outcome {
         Feasibility::Least(least) => {
-            let judgement = judge_least(alloc, tables, &least, aim)?;
-            match judgement {
-                Judgement::Split(point) => {
+            match judge_least(alloc, tables, &least, aim) {
+                Ok(Judgement::Split(point)) => {
                     Ok((
                         Look::Split(tables.conflicts.triples()[point.triple]),
                         Some(least),
                     ))
                 }
-                Judgement::Closed(look) => Ok((look, None)),
+                Ok(Judgement::Closed(look)) => {
+                    drop(least);
+                    Ok((look, None))
+                }
+                Err(error) => {
+                    drop(least);
+                    Err(error)
+                }
             }
         }
         Feasibility::Positive(cycle) => {

@@ -81,7 +81,8 @@ pub fn look(
     ensures met { IfOk result (λ look. PrunesFrom target (outcome_of look)) }
     ensures ties { IfOk result (λ look. TiesWith timing.now node.now (option_copied best.entry) (outcome_of look)) }
 {
-    let (look, _) = look_from(alloc, timing, conflicts, node, None, target, best)?;
+    let (look, least) = look_from(alloc, timing, conflicts, node, None, target, best)?;
+    drop(least);
     Ok(look)
 }
 
@@ -112,11 +113,30 @@ pub fn look_from(
     ensures least { IfOk result (λ found. ComesWithSplit timing.now node.now (outcome_of found.0) found.1) }
 {
     let loads = Loads::of(alloc, timing)?;
-    let outcome = least_at(alloc, timing, conflicts, node, parent)?;
     let tables = Tables {
         timing,
         conflicts,
         loads: &loads,
     };
-    judge(alloc, tables, outcome, Aim { target, best })
+    let found = look_with(alloc, tables, node, parent, Aim { target, best });
+    drop(loads);
+    found
+}
+
+// The same with tables at hand.
+fn look_with(
+    alloc: Global,
+    tables: Tables<'_>,
+    node: &Node,
+    parent: Option<&Least>,
+    aim: Aim<'_>,
+) -> Result<(Look, Option<Least>), NoMemory>
+    requires best { IfSome (option_copied aim.best) (IsSolved tables.timing.now) }
+    requires fits { Fits tables.conflicts.now.triples node.now }
+    requires parent { IfSome (option_copied parent) (IsLeastAbove tables.timing.now node.now) }
+    ensures first_case { IfOk result (λ found. IsLook tables.entry.timing.now node.now aim.entry.target (option_copied aim.entry.best) (outcome_of found.0)) }
+    ensures least { IfOk result (λ found. ComesWithSplit tables.entry.timing.now node.now (outcome_of found.0) found.1) }
+{
+    let outcome = least_at(alloc, tables.timing, tables.conflicts, node, parent)?;
+    judge(alloc, tables, outcome, aim)
 }

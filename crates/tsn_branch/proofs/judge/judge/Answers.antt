@@ -29,48 +29,48 @@ bounds-triples-point c =
     let network = c.args.tables.timing.now in
     let (path, answers) = c.requires.some_path in
     let solves = subst (Answers (releases_of network) (arcs_of network path)) c.in-Least.is answers in
-    let found = subst (IsJudgement network path c.args.aim.target (option_copied c.args.aim.best)) c.in-Split.is
-    (c.in_ok-judgement-in-Least.ensures path solves) in
-    subst (λ (ts : List Triple). c.in-Split.point.triple < length ts) (sym (c.triples.ensures ∙ c.args.tables.right_conflicts.triples)) found.0.within
+    let found = subst (IsJudgement network path c.args.aim.target (option_copied c.args.aim.best)) c.in-Ok-Split.field-0-is
+    (c.in-Ok-Split.ensures path solves) in
+    subst (λ (ts : List Triple). c.in-Ok-Split.point.triple < length ts) (sym (c.triples.ensures ∙ c.args.tables.right_conflicts.triples)) found.0.within
 
 pub offset_bounds-triples-point : goal.offset_bounds-triples-point
 offset_bounds-triples-point c =
     let network = c.args.tables.timing.now in
     let (path, answers) = c.requires.some_path in
     let solves = subst (Answers (releases_of network) (arcs_of network path)) c.in-Least.is answers in
-    let found = subst (IsJudgement network path c.args.aim.target (option_copied c.args.aim.best)) c.in-Split.is
-    (c.in_ok-judgement-in-Least.ensures path solves) in
-    let below : c.in-Split.point.triple < length c.triples.result.now =
-    subst (λ (ts : List Triple). c.in-Split.point.triple < length ts) (sym (c.triples.ensures ∙ c.args.tables.right_conflicts.triples)) found.0.within in
+    let found = subst (IsJudgement network path c.args.aim.target (option_copied c.args.aim.best)) c.in-Ok-Split.field-0-is
+    (c.in-Ok-Split.ensures path solves) in
+    let below : c.in-Ok-Split.point.triple < length c.triples.result.now =
+    subst (λ (ts : List Triple). c.in-Ok-Split.point.triple < length ts) (sym (c.triples.ensures ∙ c.args.tables.right_conflicts.triples)) found.0.within in
     let long = c.triples.type_inv in
     omega arith
 
-pub returns-in-Split-clause-look : goal.returns-in-Split-clause-look
-returns-in-Split-clause-look c =
+pub returns-in-Ok-Split-clause-look : goal.returns-in-Ok-Split-clause-look
+returns-in-Ok-Split-clause-look c =
     λ path answers.
     let network = c.args.tables.timing.now in
     let solves = subst (Answers (releases_of network) (arcs_of network path)) c.in-Least.is answers in
-    let found = subst (IsJudgement network path c.args.aim.target (option_copied c.args.aim.best)) c.in-Split.is
-    (c.in_ok-judgement-in-Least.ensures path solves) in
-    subst (λ (ts : List Triple). IsLook network path c.args.aim.target (option_copied c.args.aim.best) (split (triple_at ts c.in-Split.point.triple))) (sym (c.triples.ensures ∙ c.args.tables.right_conflicts.triples)) found.1
+    let found = subst (IsJudgement network path c.args.aim.target (option_copied c.args.aim.best)) c.in-Ok-Split.field-0-is
+    (c.in-Ok-Split.ensures path solves) in
+    subst (λ (ts : List Triple). IsLook network path c.args.aim.target (option_copied c.args.aim.best) (split (triple_at ts c.in-Ok-Split.point.triple))) (sym (c.triples.ensures ∙ c.args.tables.right_conflicts.triples)) found.1
 
-pub returns-in-Closed-clause-look : goal.returns-in-Closed-clause-look
-returns-in-Closed-clause-look c =
+pub returns-in-Ok-Closed-clause-look : goal.returns-in-Ok-Closed-clause-look
+returns-in-Ok-Closed-clause-look c =
     λ path answers.
     let network = c.args.tables.timing.now in
     let solves = subst (Answers (releases_of network) (arcs_of network path)) c.in-Least.is answers in
-    let found = subst (IsJudgement network path c.args.aim.target (option_copied c.args.aim.best)) c.in-Closed.is
-    (c.in_ok-judgement-in-Least.ensures path solves) in
+    let found = subst (IsJudgement network path c.args.aim.target (option_copied c.args.aim.best)) c.in-Ok-Closed.field-0-is
+    (c.in-Ok-Closed.ensures path solves) in
     found.1
 
-pub returns-in-Closed-clause-least : goal.returns-in-Closed-clause-least
-returns-in-Closed-clause-least c =
+pub returns-in-Ok-Closed-clause-least : goal.returns-in-Ok-Closed-clause-least
+returns-in-Ok-Closed-clause-least c =
     λ path answers.
     let network = c.args.tables.timing.now in
     let solves = subst (Answers (releases_of network) (arcs_of network path)) c.in-Least.is answers in
-    let found = subst (IsJudgement network path c.args.aim.target (option_copied c.args.aim.best)) c.in-Closed.is
-    (c.in_ok-judgement-in-Least.ensures path solves) in
-    comes_alone network path (outcome_of c.in-Closed.look) found.0
+    let found = subst (IsJudgement network path c.args.aim.target (option_copied c.args.aim.best)) c.in-Ok-Closed.field-0-is
+    (c.in-Ok-Closed.ensures path solves) in
+    comes_alone network path (outcome_of c.in-Ok-Closed.look) found.0
 
 pub returns-in_ok-of-in-Positive-clause-look : goal.returns-in_ok-of-in-Positive-clause-look
 returns-in_ok-of-in-Positive-clause-look c =
