@@ -28,10 +28,10 @@ pub record Remains (network : Network) (path : List Decision) (offsets : List �
   pub not_before : IsNotAfter best.offsets offsets
   pub shown : ShowsUpto network path offsets best.offsets chains
 
-module _ (network : Network) (path : List Decision) (lowest : LeastOffsets) (solves : Solves (releases_of network) (arcs_of network path) lowest) (target : ℕ) (best : Solution) (chains : List (List ℕ))
-    (remains : Remains network path lowest.offsets target best chains) where
-  tie_from : (bound : ℕ) (leaf : Leaf) → IsPruning network path best.flowspan bound leaf → IsTie network path target best bound leaf chains
-  tie_from bound leaf pruning = record {
+module _ (network : Network) (path : List Decision) (lowest : LeastOffsets) (solves : Solves (releases_of network) (arcs_of network path) lowest) where
+  pub tie_from : (target : ℕ) (best : Solution) (chains : List (List ℕ)) → Remains network path lowest.offsets target best chains → (bound : ℕ) (leaf : Leaf)
+      → IsPruning network path best.flowspan bound leaf → IsTie network path target best bound leaf chains
+  tie_from target best chains remains bound leaf pruning = record {
     pruned_by_best = pruning;
     offsets = lowest.offsets;
     are_least = AreLeast-from network path lowest solves;
@@ -42,27 +42,26 @@ module _ (network : Network) (path : List Decision) (lowest : LeastOffsets) (sol
     shown = remains.shown;
   }
 
-  pub late_tie : (last end : ℕ) (chain : List ℕ) → IsFirstLast network lowest.offsets last → end ≡ flowspan network lowest.offsets → best.flowspan ≤ end → chain ≡ chain_of lowest last
-      → IsTie network path target best end (late last chain) chains
-  late_tie last end chain first is met same =
-      tie_from end (late last chain) (
-        lowest.offsets,
-        AreLeast-from network path lowest solves,
-        remains.fit,
-        is,
-        met,
-        (first, subst (IsShownBy network path lowest.offsets last) (sym same) (IsShownBy-from network path lowest solves last first.counted)),
-      )
+  pub late_pruning : (limit last end : ℕ) (chain : List ℕ) → AllFit network lowest.offsets → IsFirstLast network lowest.offsets last
+      → end ≡ flowspan network lowest.offsets → limit ≤ end → chain ≡ chain_of lowest last → IsPruning network path limit end (late last chain)
+  late_pruning limit last end chain fit first is met same = (
+    lowest.offsets,
+    AreLeast-from network path lowest solves,
+    fit,
+    is,
+    met,
+    (first, subst (IsShownBy network path lowest.offsets last) (sym same) (IsShownBy-from network path lowest solves last first.counted)),
+  )
 
-  pub load_tie : (place bound link : ℕ) (entries : List Entry) → flowspan network lowest.offsets < best.flowspan → IsFirstLoad network lowest.offsets best.flowspan (Load place bound)
-      → slice_get (shared_links network) place ≡ Some link → ShowsLink network path lowest.offsets link entries → IsTie network path target best bound (load link entries) chains
-  load_tie place bound link entries below is there shows =
+  pub load_pruning : (limit place bound link : ℕ) (entries : List Entry) → AllFit network lowest.offsets → flowspan network lowest.offsets < limit
+      → IsFirstLoad network lowest.offsets limit (Load place bound)
+      → slice_get (shared_links network) place ≡ Some link → ShowsLink network path lowest.offsets link entries → IsPruning network path limit bound (load link entries)
+  load_pruning limit place bound link entries fit below is there shows =
       let same_some : Some is.0 ≡ Some link = sym is.1.there ∙ there in
-      let same : is.0 ≡ link = cc same_some in
-      tie_from bound (load link entries) (
+      let same : is.0 ≡ link = cc same_some in (
         lowest.offsets,
         AreLeast-from network path lowest solves,
-        remains.fit,
+        fit,
         below,
         record { link_index = place; there = there; unloaded_before = is.1.unloaded_before },
         subst (λ found. busy_by network lowest.offsets found ≤ℤ pos network.cycle) same is.2,

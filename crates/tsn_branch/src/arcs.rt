@@ -81,7 +81,20 @@ pub fn least_at(
             return above.with_arc(alloc, arc);
         }
     }
-    let net = net_of(alloc, timing)?;
     let arcs = arcs_of(alloc, conflicts, path)?;
-    net.least(alloc, &arcs)
+    let found = least_by(alloc, timing, &arcs);
+    drop(arcs);
+    found
+}
+
+// What the arcs come to.
+fn least_by(alloc: Global, timing: &Timing, arcs: &[Arc]) -> Result<Feasibility, NoMemory>
+    requires few { HasFewStreams timing.now }
+    requires among { All (IsArcAmong (length (releases_of timing.now))) arcs.now }
+    ensures { IfOk result (Answers (releases_of timing.now) arcs.now) }
+{
+    let net = net_of(alloc, timing)?;
+    let found = net.least(alloc, arcs);
+    drop(net);
+    found
 }

@@ -51,8 +51,9 @@ fn bound_at(alloc: Global, tables: Tables<'_>, target: u64) -> Result<u64, NoMem
 {
     let mut descent = Descent::root(alloc, tables.timing)?;
     let aim = Aim { target, best: None };
-    let look = descent.look(alloc, tables, aim)?;
+    let looked = descent.look(alloc, tables, aim);
     drop(descent);
+    let look = looked?;
     let bound = bound_of(&look);
     drop(look);
     Ok(bound)

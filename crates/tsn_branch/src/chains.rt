@@ -22,8 +22,17 @@ pub fn chain_to(alloc: Global, least: &Least, stream: usize) -> Result<Chain, No
     requires short { length (chain_of least.now stream) ≤ 128 }
     ensures { IfOk result (λ chain. chain ≡ chain_of least.now stream) }
 {
-    let depths = least.chain(alloc, stream)?;
-    Chain::of(alloc, &depths)
+    chain_along(alloc, least.chain(alloc, stream)?)
+}
+
+/// A chain of decisions at these depths.
+pub fn chain_along(alloc: Global, depths: Vec<usize>) -> Result<Chain, NoMemory>
+    requires { length depths.items ≤ 128 }
+    ensures { IfOk result (λ chain. chain ≡ depths.items) }
+{
+    let chain = Chain::of(alloc, &depths);
+    drop(depths);
+    chain
 }
 
 /// The chains that show the least offsets of this many streams.

@@ -17,15 +17,16 @@ ghost use Rattle.tsn_branch.specs.Releases.{releases_of};
 ghost use Rattle.tsn_branch.specs.Descent.{Stands, Splits, IsAfter, Leads, IsJudgement};
 
 use crate::arcs::net_of;
+use crate::chains::chain_along;
 use crate::judge::{judge_least, judge_raised};
 use crate::judgement::{Judgement, SplitPoint};
 use crate::tables::{Aim, Tables};
 use std::alloc::Global;
 use std::marker::Model;
-use tsn_cert::{Chain, Leaf};
+use tsn_cert::Leaf;
 use tsn_conflict::sharing::Conflicts;
 use tsn_diff::ArcStack;
-use tsn_model::{NoMemory, Side, Triple};
+use tsn_model::{Decision, NoMemory, Side, Triple};
 use tsn_node::Node;
 use tsn_node::outcome::Look;
 use tsn_timing::Timing;
@@ -77,22 +78,22 @@ impl Descent {
         ensures path { IfOk result (λ found. MatchOption found (Unit {0}) (λ position. position.path ≡ node)) }
         ensures stands { IfOk result (λ found. MatchOption found (Unit {0}) (Stands timing.now)) }
     {
-        let mut stack = ArcStack::new(alloc, net_of(alloc, timing)?)?;
-        let path = node.path();
-        let above = path.len().saturating_sub(1);
-        for depth in 0..above {
-            let decision = path[depth];
-            let arc = conflicts.arc(decision.triple, decision.side);
-            if let Some(_closed) = stack.push(arc)? {
-                return Ok(None);
+        match stack_above(alloc, timing, conflicts, node.path()) {
+            Ok(Some(stack)) => Ok(Some(Descent {
+                node,
+                stack,
+                splits: Vec::new(alloc),
+                found: None,
+            })),
+            Ok(None) => {
+                drop(node);
+                Ok(None)
+            }
+            Err(error) => {
+                drop(node);
+                Err(error)
             }
         }
-        Ok(Some(Descent {
-            node,
-            stack,
-            splits: Vec::new(alloc),
-            found: None,
-        }))
     }
 
     /// The node.
@@ -124,7 +125,7 @@ impl Descent {
         ensures err { OnErr result (Stands tables.entry.timing.now self.new) }
     {
         if let Some(cycle) = self.lead(tables.timing, tables.conflicts)? {
-            return Ok(Look::Refuted(Leaf::Cycle(Chain::of(alloc, &cycle)?)));
+            return Ok(Look::Refuted(Leaf::Cycle(chain_along(alloc, cycle)?)));
         }
         match self.find(alloc, tables, aim) {
             Ok(Judgement::Split(point)) => {
@@ -259,4 +260,59 @@ impl Descent {
             None => judge_least(alloc, tables, self.stack.least(), aim),
         }
     }
+}
+
+// The arcs of all decisions of the path but the last. None where they contradict one another.
+fn stack_above(
+    alloc: Global,
+    timing: &Timing,
+    conflicts: &Conflicts,
+    path: &[Decision],
+) -> Result<Option<ArcStack>, NoMemory>
+    requires conflicts { AreConflictsOf timing.now conflicts.now }
+    requires fits { Fits conflicts.now.triples path.now }
+    ensures none { IfOk result (λ found. IfNone found (HasNoOffsets timing.now (take (length path.now - 1) path.now))) }
+    ensures releases { IfOk result (λ found. IfSome found (λ stack. stack.least.releases ≡ releases_of timing.now)) }
+    ensures arcs { IfOk result (λ found. IfSome found (λ stack. stack.least.arcs ≡ arcs_of timing.now (take (length path.now - 1) path.now))) }
+{
+    let mut stack = ArcStack::new(alloc, net_of(alloc, timing)?)?;
+    match put_above(&mut stack, timing, conflicts, path) {
+        Ok(true) => Ok(Some(stack)),
+        Ok(false) => {
+            drop(stack);
+            Ok(None)
+        }
+        Err(error) => {
+            drop(stack);
+            Err(error)
+        }
+    }
+}
+
+// Puts these arcs in. False where they contradict one another.
+fn put_above(
+    stack: &mut ArcStack,
+    timing: &Timing,
+    conflicts: &Conflicts,
+    path: &[Decision],
+) -> Result<bool, NoMemory>
+    requires conflicts { AreConflictsOf timing.now conflicts.now }
+    requires fits { Fits conflicts.now.triples path.now }
+    requires releases { stack.old.least.releases ≡ releases_of timing.now }
+    requires empty { stack.old.least.arcs ≡ [] }
+    ensures releases { OnOk result (stack.new.least.releases ≡ releases_of timing.now) }
+    ensures arcs { IfOk result (λ led. MatchBool led (stack.new.least.arcs ≡ arcs_of timing.now (take (length path.now - 1) path.now))
+        (HasNoOffsets timing.now (take (length path.now - 1) path.now))) }
+{
+    // The network stands in the contract alone.
+    let _ = timing;
+    let above = path.len().saturating_sub(1);
+    for depth in 0..above {
+        let decision = path[depth];
+        let arc = conflicts.arc(decision.triple, decision.side);
+        if let Some(_closed) = stack.push(arc)? {
+            return Ok(false);
+        }
+    }
+    Ok(true)
 }

@@ -1,15 +1,16 @@
 //! What the least offsets of a path, or a cycle of its arcs, come to.
-ghost use Rattle.std.specs.Prelude.{◌≡◌, ◌≤◌, ◌<◌, ℕ, List, All, Option, Some, IfOk, IfSome, IfNone, MatchOption, length, map, slice_get, option_copied};
+ghost use Rattle.std.specs.Prelude.{◌≡◌, ◌≤◌, ◌<◌, ℕ, List, [], All, Option, Some, IfOk, OnOk, IfSome, IfNone, MatchOption, length, map, slice_get, option_copied};
 ghost use Rattle.tsn_model.specs.declared.Decision.{Decision};
 ghost use Rattle.tsn_model.specs.Network.{IsWellFormed, HasFewStreams, stream_count};
 ghost use Rattle.tsn_model.specs.Schedule.{flowspan, AreApart};
 ghost use Rattle.tsn_model.specs.Arcs.{arcs_of};
 ghost use Rattle.tsn_conflict.specs.Raised.{OnlyRaisedOverlap};
 ghost use Rattle.tsn_timing.specs.Solution.{Solution, IsSolved};
+ghost use Rattle.tsn_cert.specs.Leaf.{bound_leaf};
 ghost use Rattle.tsn_diff.specs.Answers.{Answers, Solves};
 ghost use Rattle.tsn_diff.specs.Offsets.{chain_of};
 ghost use Rattle.tsn_node.specs.Outcome.{outcome_of};
-ghost use Rattle.tsn_branch.specs.Look.{IsLook, AllFit, IsFirstLast, IsUntied, ShowsLink};
+ghost use Rattle.tsn_branch.specs.Look.{IsLook, AllFit, IsFirstLast, IsPruning, IsUntied, ShowsLink};
 ghost use Rattle.tsn_branch.specs.Links.{shared_links, IsUnloaded};
 ghost use Rattle.tsn_branch.specs.Loads.{IsFirstLoad, IsTightest, entry_by};
 ghost use Rattle.tsn_branch.specs.Ends.{AreEnds};
@@ -18,13 +19,13 @@ ghost use Rattle.tsn_branch.specs.declared.instants.Ends.TheVariants as ends;
 ghost use Rattle.tsn_branch.specs.Releases.{releases_of};
 ghost use Rattle.tsn_branch.specs.Least.{ComesWithSplit};
 
-use crate::chains::{chain_to, chains_to, tie_chains};
+use crate::chains::{chain_along, chain_to, chains_to, tie_chains};
 use crate::instants::{Ends, ends_after, ends_of};
 use crate::judgement::{Judgement, SplitPoint};
 use crate::loads::{FirstLoad, Loading, User, find_loads};
 use crate::tables::{Aim, Tables};
-use std::alloc::Global;
-use tsn_cert::{Chain, Entries, Entry, Leaf, LowerBound};
+use std::alloc::{AllocError, Global};
+use tsn_cert::{Entries, Entry, Leaf, LowerBound};
 use tsn_conflict::laws::parents_overlap_starts;
 use tsn_diff::{ArcStack, Feasibility, Least};
 use tsn_model::{Frame, NoMemory};
@@ -86,7 +87,7 @@ pub fn judge(
             }
         }
         Feasibility::Positive(cycle) => {
-            let leaf = Leaf::Cycle(Chain::of(alloc, &cycle)?);
+            let leaf = Leaf::Cycle(chain_along(alloc, cycle)?);
             Ok((Look::Refuted(leaf), None))
         }
     }
@@ -299,33 +300,53 @@ fn judge_tie(
     ensures none { IfOk result (λ found. IfNone found (IsUntied tables.entry.timing.now least.now.offsets (Some best.now))) }
     ensures some { IfOk result (λ found. IfSome found (IsTieBy tables.entry.timing.now least.now (Some best.now))) }
 {
-    let limit = best.flowspan();
-    if reach.end >= limit {
-        let Some(chains) = tie_chains(alloc, tables.timing, least, best.valid())? else {
-            return Ok(None);
-        };
-        let leaf = LowerBound::Late(reach.last, chain_to(alloc, least, reach.last)?);
-        return Ok(Some(Look::Tied {
-            bound: reach.end,
+    if reach.end < best.flowspan() && reach.tightest.is_none() {
+        return Ok(None);
+    }
+    let Some(chains) = tie_chains(alloc, tables.timing, least, best.valid())? else {
+        return Ok(None);
+    };
+    match tie_bound(alloc, tables, least, reach, best.flowspan()) {
+        Ok((bound, leaf)) => Ok(Some(Look::Tied {
+            bound,
             leaf,
             chains,
-        }));
+        })),
+        Err(error) => {
+            drop(chains);
+            Err(error)
+        }
+    }
+}
+
+// What the least offsets bound the flowspan by, where it is at least the limit, and why.
+fn tie_bound(
+    alloc: Global,
+    tables: Tables<'_>,
+    least: &Least,
+    reach: Reach,
+    limit: u64,
+) -> Result<(u64, LowerBound), NoMemory>
+    requires some_path { (path : List Decision) × Solves (releases_of tables.timing.now) (arcs_of tables.timing.now path) least.now }
+    requires ends { AreEnds tables.timing.now least.now.offsets (ends.Within reach.last reach.end) }
+    requires within { (target : ℕ) × All (IsUnloaded tables.timing.now least.now.offsets target) (shared_links tables.timing.now) }
+    requires tightest { IsTightest tables.timing.now least.now.offsets limit reach.tightest }
+    requires reached { IfNone reach.tightest (limit ≤ reach.end) }
+    ensures { IfOk result (λ found. (path : List Decision) → Solves (releases_of tables.entry.timing.now) (arcs_of tables.entry.timing.now path) least.now
+        → IsPruning tables.entry.timing.now path limit found.0 (bound_leaf found.1)) }
+{
+    if reach.end >= limit {
+        let leaf = LowerBound::Late(reach.last, chain_to(alloc, least, reach.last)?);
+        return Ok((reach.end, leaf));
     }
     let Some(found) = reach.tightest else {
-        return Ok(None);
+        unreachable!();
     };
     let FirstLoad::Load(link_index, bound) = found else {
         unreachable!();
     };
-    let Some(chains) = tie_chains(alloc, tables.timing, least, best.valid())? else {
-        return Ok(None);
-    };
     let (link, entries) = entries_at(alloc, tables, least, link_index)?;
-    Ok(Some(Look::Tied {
-        bound,
-        leaf: LowerBound::Load(link, entries),
-        chains,
-    }))
+    Ok((bound, LowerBound::Load(link, entries)))
 }
 
 // The look at a node where a link is loaded.
@@ -381,13 +402,36 @@ pub fn entries_of(alloc: Global, least: &Least, users: &[User]) -> Result<Entrie
     ensures { IfOk result (λ entries. entries ≡ map (entry_by least.now) users.now) }
 {
     let mut list = Vec::with_capacity(alloc, users.len())?;
+    match add_entries(alloc, least, users, &mut list) {
+        Ok(()) => Ok(Entries::of(list)),
+        Err(error) => {
+            drop(list);
+            Err(error)
+        }
+    }
+}
+
+// Puts them behind an empty list.
+fn add_entries(
+    alloc: Global,
+    least: &Least,
+    users: &[User],
+    list: &mut Vec<Entry>,
+) -> Result<(), NoMemory>
+    requires streams { All (λ user. user.stream < length least.now.offsets) users.now }
+    requires short { All (λ user. length (chain_of least.now user.stream) ≤ 128) users.now }
+    requires empty { list.old.items ≡ [] }
+    ensures { OnOk result (list.new.items ≡ map (entry_by least.now) users.now) }
+{
     for user in users {
         let frame = Frame {
             stream: user.stream,
             shift: 0,
         };
         let chain = chain_to(alloc, least, user.stream)?;
-        list.push(Entry { frame, chain }).map_err(|_| NoMemory)?;
+        if let Err(error) = list.push(Entry { frame, chain }) {
+            return Err(AllocError::from(error).into());
+        }
     }
-    Ok(Entries::of(list))
+    Ok(())
 }

@@ -199,7 +199,7 @@ impl fmt::Display for Sought {
     fn fmt<W: fmt::Write>(&self, f: &mut fmt::Formatter<W>) -> fmt::Result {
         match self {
             Sought::None => Ok(()),
-            Sought::Flowspan => write!(f, "flowspan, "),
+            Sought::Flowspan => f.write_str("flowspan, "),
             Sought::Stream(number, streams) => write!(f, "stream {number} of {streams}, "),
         }
     }
@@ -227,7 +227,7 @@ impl fmt::Display for Best {
             }
             (Some(flowspan), None) => write!(f, "best {flowspan} ns"),
             (None, Some(bound)) => write!(f, "best none, bound {bound} ns"),
-            (None, None) => write!(f, "best none"),
+            (None, None) => f.write_str("best none"),
         }
     }
 }

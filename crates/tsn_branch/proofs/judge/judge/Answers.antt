@@ -72,10 +72,10 @@ returns-in-Ok-Closed-clause-least c =
     (c.in-Ok-Closed.ensures path solves) in
     comes_alone network path (outcome_of c.in-Ok-Closed.look) found.0
 
-pub returns-in_ok-of-in-Positive-clause-look : goal.returns-in_ok-of-in-Positive-clause-look
-returns-in_ok-of-in-Positive-clause-look c =
+pub returns-in_ok-chain_along-in-Positive-clause-look : goal.returns-in_ok-chain_along-in-Positive-clause-look
+returns-in_ok-chain_along-in-Positive-clause-look c =
     λ path answers.
     let network = c.args.tables.timing.now in
     let refutes = subst (Answers (releases_of network) (arcs_of network path)) c.in-Positive.is answers in
-    subst (λ (chain : List ℕ). IsRefutation network path c.args.aim.target (positive_cycle chain)) (sym (c.in_ok-of-in-Positive.ensures ∙ c.deref.ensures.value))
+    subst (λ (chain : List ℕ). IsRefutation network path c.args.aim.target (positive_cycle chain)) (sym c.in_ok-chain_along-in-Positive.ensures)
     (IsRefutation-from network path c.in-Positive.cycle.items refutes c.args.aim.target)

@@ -19,7 +19,7 @@ returns-in-Some-clause-first_case c =
     let network = c.args.tables.timing.now in
     let path = c.args.self.now.path in
     let led = of_some _ _ c.in_ok-cycle.field-0 c.in-Some.cycle c.in-Some.is c.in_ok-cycle.ensures.led in
-    subst (λ (chain : List ℕ). IsRefutation network path c.args.aim.target (positive_cycle chain)) (sym (c.in_ok-of.ensures ∙ c.deref.ensures.value)) (IsRefutation-from network path c.in-Some.cycle.items led.1 c.args.aim.target)
+    subst (λ (chain : List ℕ). IsRefutation network path c.args.aim.target (positive_cycle chain)) (sym c.in_ok-chain_along.ensures) (IsRefutation-from network path c.in-Some.cycle.items led.1 c.args.aim.target)
 
 pub returns-in-Some-clause-proof : goal.returns-in-Some-clause-proof
 returns-in-Some-clause-proof c = (returns-in-Some-clause-first_case c).1

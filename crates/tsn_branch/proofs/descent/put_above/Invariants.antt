@@ -1,7 +1,7 @@
 use Rattle.std.proofs.Common.{◌≡◌, take}
 use Rattle.tsn_model.specs.Arcs.{arcs_of}
 use Rattle.tsn_branch.specs.Releases.{releases_of}
-use Rattle.tsn_branch.proofs.descent.Descent.at.Given as goal
+use Rattle.tsn_branch.proofs.descent.put_above.Given as goal
 
 abbrev pub invariant-loop-depth : goal.invariant-loop-depth
 invariant-loop-depth l = record {

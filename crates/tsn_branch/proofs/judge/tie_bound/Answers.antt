@@ -1,0 +1,47 @@
+use Rattle.std.proofs.Common.{subst, arith}
+use Rattle.std.specs.Prelude.{IfNone, ◌≤◌}
+use Rattle.std.proofs.lemmas.Option.{slice_get_within}
+use Rattle.tsn_branch.specs.Links.{shared_links}
+use Rattle.tsn_branch.specs.Loads.{IsFirstLoad, IsTightest}
+use Rattle.tsn_branch.proofs.Tied.{late_pruning, load_pruning, not_overloaded}
+use Rattle.tsn_branch.proofs.judge.tie_bound.Goals as goal
+
+pub returns-then-reach-limit : goal.returns-then-reach-limit
+returns-then-reach-limit c =
+    λ path solves.
+    let (fit, last, end) = c.requires.ends in
+    late_pruning c.args.tables.timing.now path c.args.least.now solves c.args.limit
+    c.args.reach.last c.args.reach.end c.in_ok-chain_to.field-0 fit last end c.if-reach-limit.true c.in_ok-chain_to.ensures
+
+pub unreachable-requires : goal.unreachable-requires
+unreachable-requires c =
+    let reached = subst (λ o. IfNone o (c.args.limit ≤ c.args.reach.end)) c.in_default.is c.requires.reached in
+    omega (arith, reached, c.if-reach-limit.false)
+
+pub unreachable-requires-in_default-found : goal.unreachable-requires-in_default-found
+unreachable-requires-in_default-found c =
+    let network = c.args.tables.timing.now in
+    let offsets = c.args.least.now.offsets in
+    let limit = c.args.limit in
+    let found = subst (IsTightest network offsets limit) c.in-Some.is c.requires.tightest in
+    not_overloaded network offsets c.requires.within.0 limit c.in_default-found.field-0 c.requires.within.1
+    (subst (IsFirstLoad network offsets limit) c.in_default-found.is found)
+
+pub entries_at-requires-clause-link_index : goal.entries_at-requires-clause-link_index
+entries_at-requires-clause-link_index c =
+    let network = c.args.tables.timing.now in
+    let offsets = c.args.least.now.offsets in
+    let found = subst (IsTightest network offsets c.args.limit) c.in-Some.is c.requires.tightest in
+    let is = subst (IsFirstLoad network offsets c.args.limit) c.in-Load.is found in
+    slice_get_within (shared_links network) c.in-Load.link_index is.0 is.1.there
+
+pub returns : goal.returns
+returns c =
+    λ path solves.
+    let network = c.args.tables.timing.now in
+    let lowest = c.args.least.now in
+    let (fit, last, end) = c.requires.ends in
+    let first = subst (IsTightest network lowest.offsets c.args.limit) c.in-Some.is c.requires.tightest in
+    let is = subst (IsFirstLoad network lowest.offsets c.args.limit) c.in-Load.is first in
+    load_pruning network path lowest solves c.args.limit c.in-Load.link_index c.in-Load.bound c.in_ok-link.link c.in_ok-link.entries fit
+    (omega (arith, end, c.if-reach-limit.false)) is c.in_ok-link.ensures.link (c.in_ok-link.ensures.shown path solves)
