@@ -1,5 +1,5 @@
 //! The arcs of a path, and what they come to.
-ghost use Rattle.std.specs.Prelude.{◌≡◌, ◌↔◌, IsTrue, IfOk, IfSome, All, Contains, length, option_copied};
+ghost use Rattle.std.specs.Prelude.{◌≡◌, ◌↔◌, IsTrue, IfOk, IfSome, All, length, option_copied};
 ghost use Rattle.tsn_model.specs.Network.{HasFewStreams, Network};
 ghost use Rattle.tsn_model.specs.Arcs as model;
 ghost use Rattle.tsn_conflict.specs.Kept.{AreConflictsOf};
@@ -20,15 +20,13 @@ use tsn_timing::Timing;
 pub fn fits(conflicts: &Conflicts, node: &Node) -> bool
     ensures { IsTrue result ↔ Fits conflicts.now.triples node.now }
 {
-    node.path()
-        .iter()
-        .all(|decision| is_on_conflict(conflicts, decision))
-}
-
-fn is_on_conflict(conflicts: &Conflicts, decision: &Decision) -> bool
-    ensures { IsTrue result ↔ Contains conflicts.now.triples decision.now.triple }
-{
-    conflicts.has(decision.triple)
+    let path = node.path();
+    for decision in path {
+        if !conflicts.has(decision.triple) {
+            return false;
+        }
+    }
+    true
 }
 
 /// The streams, with the release of each.

@@ -231,10 +231,7 @@ impl Descent {
             return Ok(None);
         };
         let arc = conflicts.arc(decision.triple, decision.side);
-        if let Some(chain) = self.stack.push(arc)? {
-            return Ok(Some(chain));
-        }
-        Ok(None)
+        self.stack.push(arc)
     }
 
     // Takes out the arc of the last decision, where there is one.

@@ -1,20 +1,35 @@
-use Rattle.std.proofs.Common.{rules, ℕ, ◌<◌, Contains, length, sym, subst}
-use Rattle.std.specs.Bool.{MatchBool}
-use Rattle.std.specs.List.{AllWithin, HoldsAt}
-use Rattle.std.proofs.lemmas.Iterator.{cases_from_all, YieldsList-from_slice}
-use Rattle.std.proofs.lemmas.Iterator.Search.{true_from_All}
-use Rattle.std.proofs.lemmas.List.Elements.{All-from_all_within}
-use borrow.Author.Tests.{tests}
+use Rattle.std.proofs.Common.{pos, Contains, get_or, take, refl, sym, ◌∙◌, subst, arith}
+use Rattle.std.proofs.lemmas.List.{take_all, take_more}
+use Rattle.std.proofs.lemmas.List.Elements.{All-push}
 use Rattle.tsn_model.specs.declared.Decision.{Decision}
+use Rattle.tsn_model.specs.declared.Side.TheVariants.{Left}
 use Rattle.tsn_node.specs.Path.{Fits}
 use Rattle.tsn_branch.proofs.arcs.fits.Goals as goal
 
+abbrev no_decision : Decision
+no_decision = record { triple = record { left = 0; right = 0; link = 0; lag = pos 0 }; side = Left }
+
+pub loop-decision-preserved : goal.loop-decision-preserved
+loop-decision-preserved c =
+    let triples = c.args.conflicts.now.triples in
+    let path = c.path-path.result.now in
+    let index = c.loop-decision.decision-index in
+    subst (Fits triples) (sym (take_more path index no_decision c.loop-decision-test.true))
+    (All-push (λ (d : Decision). Contains triples d.triple) (take index path) (get_or path index no_decision) c.loop-decision.invariant
+    (c.has.ensures.0 c.if-not-has.false))
+
+pub returns-then-not-has : goal.returns-then-not-has
+returns-then-not-has c =
+    let triples = c.args.conflicts.now.triples in
+    let path = c.path-path.result.now in
+    let index = c.loop-decision.decision-index in (
+      λ passes. cc passes,
+      λ fits. sym c.if-not-has.true ∙ c.has.ensures.1 (subst (Fits triples) (sym c.path-path.ensures.value) fits index no_decision c.loop-decision-test.true),
+    )
+
 pub returns : goal.returns
 returns c =
-    let triples = c.args.conflicts.now.triples in
-    let path = c.path.result.now in
-    let judged = cases_from_all _ _ c.all.result (λ (d : Decision). Contains triples d.triple) (λ d. Contains triples d.triple → ⊥) c.all.ensures.ran (YieldsList-from_slice path cc) (λ x q k. search (rules, tests)) (λ x q k. search (rules, tests)) in (
-      λ passes. subst (Fits triples) c.path.ensures.value (All-from_all_within (λ (d : Decision). Contains triples d.triple) path
-          (subst (λ r. MatchBool r (AllWithin (λ (d : Decision). Contains triples d.triple) path 0 (length path)) ((k : ℕ) × (k < length path) × HoldsAt (λ (d : Decision). Contains triples d.triple → ⊥) path k)) passes judged)),
-      λ fits. true_from_All (λ (d : Decision). Contains triples d.triple) (λ d. Contains triples d.triple → ⊥) c.all.result path (λ d has lacks. lacks has) judged (subst (Fits triples) (sym c.path.ensures.value) fits),
+    let past = c.loop-decision-test.false in (
+      λ passes. subst (Fits c.args.conflicts.now.triples) (take_all c.loop-decision.decision-index c.path-path.result.now (omega arith) ∙ c.path-path.ensures.value) c.loop-decision.invariant,
+      λ fits. refl,
     )

@@ -1,4 +1,4 @@
-use Rattle.std.proofs.Common.{◌≡◌, ◌<◌, List, All, length, sym, ap, ◌∙◌, subst}
+use Rattle.std.proofs.Common.{◌≡◌, ◌<◌, ℕ, List, All, length, sym, ap, ◌∙◌, subst, arith}
 use Rattle.std.proofs.lemmas.Result.{IfOk-weaker}
 use Rattle.tsn_model.specs.declared.Decision.{Decision}
 use Rattle.tsn_model.specs.Network.{Network, stream_count}
@@ -7,7 +7,8 @@ use Rattle.tsn_diff.specs.Stack.{Stack}
 use Rattle.tsn_diff.specs.Offsets.{LeastOffsets}
 use Rattle.tsn_diff.specs.Answers.{Solves}
 use Rattle.tsn_branch.specs.Releases.{releases_of}
-use Rattle.tsn_branch.proofs.Leasts.{length-releases}
+use Rattle.tsn_branch.specs.Ends.{AreEnds, EndedBefore}
+use Rattle.tsn_branch.proofs.Leasts.{count, length-releases}
 use Rattle.tsn_model.specs.Schedule.{IsFirstOverlap}
 use Rattle.tsn_conflict.specs.Raised.{OnlyRaisedOverlap, triple_at}
 use Rattle.tsn_model.specs.declared.Triple.{Triple}
@@ -41,6 +42,38 @@ judge_known-requires-clause-raised c =
     let network = c.args.tables.timing.now in
     subst (All (λ stream. stream < stream_count network)) (sym c.raised-raised.ensures.value)
     (subst (λ n. All (λ stream. stream < n) c.args.stack.now.raised) (ap length c.requires.releases ∙ length-releases network) c.raised-raised.ensures.below)
+
+pub ends_after-requires-clause-count : goal.ends_after-requires-clause-count
+ends_after-requires-clause-count c =
+    let network = c.args.tables.timing.now in
+    let (path, arcs) = c.requires.some_path in
+    let lowest = c.least-least.result.now in
+    ap (λ (offsets : List ℕ). length offsets) c.offsets.ensures
+    ∙ count network path lowest (solves_on network path c.args.stack.now lowest c.least-least.ensures.value c.least-least.ensures.solves c.requires.releases arcs)
+
+pub ends_after-requires-clause-raised : goal.ends_after-requires-clause-raised
+ends_after-requires-clause-raised c =
+    let network = c.args.tables.timing.now in
+    subst (All (λ stream. stream < stream_count network)) (sym c.raised-raised.ensures.value)
+    (subst (λ n. All (λ stream. stream < n) c.args.stack.now.raised) (ap length c.requires.releases ∙ length-releases network) c.raised-raised.ensures.below)
+
+pub ends_after-requires-clause-before : goal.ends_after-requires-clause-before
+ends_after-requires-clause-before c =
+    let network = c.args.tables.timing.now in
+    let parent = c.requires.parent in
+    let same = c.offsets.ensures ∙ ap (λ (lowest : LeastOffsets). lowest.offsets) c.least-least.ensures.value in
+    subst (λ raised. EndedBefore network raised c.offsets.result.now c.args.parent.last c.args.parent.end) (sym c.raised-raised.ensures.value)
+    (subst (λ (offsets : List ℕ). EndedBefore network c.args.stack.now.raised offsets c.args.parent.last c.args.parent.end) (sym same)
+    (record { before = parent.before; rose = parent.rose; ended = parent.was_split_point.ended }))
+
+pub judge_known-requires-clause-ends : goal.judge_known-requires-clause-ends
+judge_known-requires-clause-ends c =
+    subst (λ (offsets : List ℕ). AreEnds c.args.tables.timing.now offsets c.ends_after.result) c.offsets.ensures c.ends_after.ensures
+
+pub judge_known-requires-clause-start : goal.judge_known-requires-clause-start
+judge_known-requires-clause-start c =
+    let within = subst (λ (ts : List Triple). c.args.parent.triple < length ts) (sym c.args.tables.right_conflicts.triples) c.requires.parent.within in
+    omega (arith, within)
 
 pub returns : goal.returns
 returns c =
