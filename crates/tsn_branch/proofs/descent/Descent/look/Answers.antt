@@ -1,4 +1,4 @@
-use Rattle.std.proofs.Common.{◌≡◌, ℕ, List, sym, ◌∙◌, subst}
+use Rattle.std.proofs.Common.{◌≡◌, ℕ, List, Option, None, MatchOption, sym, ◌∙◌, subst}
 use Rattle.std.specs.Prelude.{option_copied}
 use Rattle.tsn_model.specs.Certificate.{positive_cycle}
 use Rattle.tsn_model.specs.declared.Triple.{Triple}
@@ -13,6 +13,21 @@ use Rattle.tsn_branch.proofs.Leasts.{IsRefutation-from}
 use Rattle.tsn_branch.proofs.Rights.{HasProof-from, SplitsUndecided-from, SplitsAmong-from, SolvesBelow-from, TiesWith-from}
 use Rattle.tsn_branch.proofs.Positions.{of_some}
 use Rattle.tsn_branch.proofs.descent.Descent.look.Goals as goal
+
+of_none : {X : Type 0} (A : Type 0) (B : X → Type 0) (o : Option X) → o ≡ None → MatchOption o A B → A
+of_none A B o is holds = subst (λ p. MatchOption p A B) is holds
+
+pub find-requires-clause-leads : goal.find-requires-clause-leads
+find-requires-clause-leads c = of_none _ _ c.in_ok-cycle.field-0 c.in_default.is c.in_ok-cycle.ensures.led
+
+pub draw_back-requires : goal.draw_back-requires
+draw_back-requires c = (c.args.tables.timing.now, of_none _ _ c.in_ok-cycle.field-0 c.in_default.is c.in_ok-cycle.ensures.led)
+
+pub draw_back-requires-in-Err : goal.draw_back-requires-in-Err
+draw_back-requires-in-Err c = (c.args.tables.timing.now, of_none _ _ c.in_ok-cycle.field-0 c.in_default.is c.in_ok-cycle.ensures.led)
+
+pub returns-in-Err-clause-err : goal.returns-in-Err-clause-err
+returns-in-Err-clause-err c = c.draw_back-in-Err.ensures.stands c.args.tables.timing.now (of_none _ _ c.in_ok-cycle.field-0 c.in_default.is c.in_ok-cycle.ensures.led)
 
 pub returns-in-Some-clause-first_case : goal.returns-in-Some-clause-first_case
 returns-in-Some-clause-first_case c =
