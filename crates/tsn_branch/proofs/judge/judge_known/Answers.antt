@@ -1,14 +1,42 @@
-use Rattle.std.proofs.Common.{◌≤◌, List, length, ℕ, All, sym, ap, ◌∙◌, subst, arith}
+use Rattle.std.proofs.Common.{◌<◌, ◌≤◌, List, length, ℕ, All, sym, ap, ◌∙◌, subst, arith}
 use Rattle.std.specs.Prelude.{option_copied, IfNone, IfSome}
 use Rattle.std.proofs.lemmas.Result.{IfOk-weaker}
 use Rattle.tsn_branch.specs.Links.{shared_links, IsUnloaded}
 use Rattle.tsn_branch.specs.Loads.{IsFirstLoad, IsTightest}
 use Rattle.tsn_branch.specs.Ends.{AreEnds}
 use Rattle.tsn_branch.specs.Look.{IsFirstOverrun, IsShownBy, IsUntied}
-use Rattle.tsn_branch.proofs.Leasts.{count, AreLeast-from, IsShownBy-from, small_offsets}
+use Rattle.tsn_branch.proofs.Leasts.{count, short, AreLeast-from, IsShownBy-from, small_offsets}
 use Rattle.tsn_branch.specs.Descent.{IsTieBy}
 use Rattle.tsn_branch.proofs.Tied.{tightest_for}
 use Rattle.tsn_branch.proofs.judge.judge_known.Goals as goal
+
+pub chain_to-requires-clause-stream : goal.chain_to-requires-clause-stream
+chain_to-requires-clause-stream c =
+    let network = c.args.tables.timing.now in
+    let path = c.requires.some_path in
+    let first : IsFirstOverrun network c.args.least.now.offsets c.in-Overrun.stream = subst (AreEnds network c.args.least.now.offsets) c.in-Overrun.is c.requires.ends in
+    subst (λ n. c.in-Overrun.stream < n) (sym (count network path.0 c.args.least.now path.1)) first.counted
+
+pub chain_to-requires-clause-short : goal.chain_to-requires-clause-short
+chain_to-requires-clause-short c =
+    let network = c.args.tables.timing.now in
+    let path = c.requires.some_path in
+    let first : IsFirstOverrun network c.args.least.now.offsets c.in-Overrun.stream = subst (AreEnds network c.args.least.now.offsets) c.in-Overrun.is c.requires.ends in
+    short network path.0 c.args.least.now path.1 c.args.tables.right_conflicts.few c.in-Overrun.stream first.counted
+
+pub chain_to-requires-then-end-aim-clause-stream : goal.chain_to-requires-then-end-aim-clause-stream
+chain_to-requires-then-end-aim-clause-stream c =
+    let network = c.args.tables.timing.now in
+    let path = c.requires.some_path in
+    let (fit, last, end) = subst (AreEnds network c.args.least.now.offsets) c.in-Within.is c.requires.ends in
+    subst (λ n. c.in-Within.last < n) (sym (count network path.0 c.args.least.now path.1)) last.counted
+
+pub chain_to-requires-then-end-aim-clause-short : goal.chain_to-requires-then-end-aim-clause-short
+chain_to-requires-then-end-aim-clause-short c =
+    let network = c.args.tables.timing.now in
+    let path = c.requires.some_path in
+    let (fit, last, end) = subst (AreEnds network c.args.least.now.offsets) c.in-Within.is c.requires.ends in
+    short network path.0 c.args.least.now path.1 c.args.tables.right_conflicts.few c.in-Within.last last.counted
 
 pub returns-in-Overrun : goal.returns-in-Overrun
 returns-in-Overrun c =

@@ -1,10 +1,23 @@
-use Rattle.std.proofs.Common.{subst, arith}
+use Rattle.std.proofs.Common.{sym, ◌<◌, subst, arith}
 use Rattle.std.specs.Prelude.{IfNone, ◌≤◌}
 use Rattle.std.proofs.lemmas.Option.{slice_get_within}
 use Rattle.tsn_branch.specs.Links.{shared_links}
 use Rattle.tsn_branch.specs.Loads.{IsFirstLoad, IsTightest}
+use Rattle.tsn_branch.proofs.Leasts.{count, short}
 use Rattle.tsn_branch.proofs.Tied.{late_pruning, load_pruning, not_overloaded}
 use Rattle.tsn_branch.proofs.judge.tie_bound.Goals as goal
+
+pub chain_to-requires-clause-stream : goal.chain_to-requires-clause-stream
+chain_to-requires-clause-stream c =
+    let path = c.requires.some_path in
+    let (fit, last, end) = c.requires.ends in
+    subst (λ n. c.args.reach.last < n) (sym (count c.args.tables.timing.now path.0 c.args.least.now path.1)) last.counted
+
+pub chain_to-requires-clause-short : goal.chain_to-requires-clause-short
+chain_to-requires-clause-short c =
+    let path = c.requires.some_path in
+    let (fit, last, end) = c.requires.ends in
+    short c.args.tables.timing.now path.0 c.args.least.now path.1 c.args.tables.right_conflicts.few c.args.reach.last last.counted
 
 pub returns-then-reach-limit : goal.returns-then-reach-limit
 returns-then-reach-limit c =
