@@ -54,8 +54,8 @@ module _ (network : Network) (path : List Decision) (lowest : LeastOffsets) (sol
   )
 
   pub load_pruning : (limit place bound link : ℕ) (entries : List Entry) → AllFit network lowest.offsets → flowspan network lowest.offsets < limit
-      → IsFirstLoad network lowest.offsets limit (Load place bound)
-      → slice_get (shared_links network) place ≡ Some link → ShowsLink network path lowest.offsets link entries → IsPruning network path limit bound (load link entries)
+      → IsFirstLoad network lowest.offsets limit (Load place bound) → slice_get (shared_links network) place ≡ Some link
+      → ShowsLink network path lowest.offsets link entries → IsPruning network path limit bound (load link entries)
   load_pruning limit place bound link entries fit below is there shows =
       let same_some : Some is.0 ≡ Some link = sym is.1.there ∙ there in
       let same : is.0 ≡ link = cc same_some in (

@@ -30,6 +30,7 @@ returns-then-not-has c =
 pub returns : goal.returns
 returns c =
     let past = c.loop-decision-test.false in (
-      λ passes. subst (Fits c.args.conflicts.now.triples) (take_all c.loop-decision.decision-index c.path-path.result.now (omega arith) ∙ c.path-path.ensures.value) c.loop-decision.invariant,
+      λ passes. subst (Fits c.args.conflicts.now.triples)
+          (take_all c.loop-decision.decision-index c.path-path.result.now (omega arith) ∙ c.path-path.ensures.value) c.loop-decision.invariant,
       λ fits. refl,
     )

@@ -52,10 +52,13 @@ returns-in-Some-clause-arcs c =
     let above = c.saturating_sub-above.ensures in
     let arcs = c.loop-depth.invariant.arcs in
     let arc = c.arc-arc.ensures.value network c.requires.conflicts in
-    let refutes = subst (λ o. IfSome o (λ chain. Refutes (length c.loop-depth.stack.least.releases) (c.loop-depth.stack.least.arcs ++ c.arc-arc.result ∷ []) chain.items))
+    let refutes =
+    subst (λ o. IfSome o (λ chain. Refutes (length c.loop-depth.stack.least.releases) (c.loop-depth.stack.least.arcs ++ c.arc-arc.result ∷ []) chain.items))
     c.in-Some.is c.in_ok-_closed.ensures.closed in
-    let on_path = subst (λ (as' : List Arc). Refutes (length c.loop-depth.stack.least.releases) as' c.in-Some._closed.items) (λ i. arcs i ++ arc i ∷ []) refutes in
-    none_hold network path depth (length path - 1) (length c.loop-depth.stack.least.releases) no_decision c.in-Some._closed.items (omega arith) (omega arith) on_path
+    let on_path = subst (λ (as' : List Arc). Refutes (length c.loop-depth.stack.least.releases) as' c.in-Some._closed.items)
+    (λ i. arcs i ++ arc i ∷ []) refutes in
+    none_hold network path depth (length path - 1) (length c.loop-depth.stack.least.releases)
+    no_decision c.in-Some._closed.items (omega arith) (omega arith) on_path
 
 pub returns-clause-arcs : goal.returns-clause-arcs
 returns-clause-arcs c =

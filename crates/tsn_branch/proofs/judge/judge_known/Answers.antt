@@ -14,14 +14,16 @@ pub chain_to-requires-clause-stream : goal.chain_to-requires-clause-stream
 chain_to-requires-clause-stream c =
     let network = c.args.tables.timing.now in
     let path = c.requires.some_path in
-    let first : IsFirstOverrun network c.args.least.now.offsets c.in-Overrun.stream = subst (AreEnds network c.args.least.now.offsets) c.in-Overrun.is c.requires.ends in
+    let first : IsFirstOverrun network c.args.least.now.offsets c.in-Overrun.stream =
+    subst (AreEnds network c.args.least.now.offsets) c.in-Overrun.is c.requires.ends in
     subst (λ n. c.in-Overrun.stream < n) (sym (count network path.0 c.args.least.now path.1)) first.counted
 
 pub chain_to-requires-clause-short : goal.chain_to-requires-clause-short
 chain_to-requires-clause-short c =
     let network = c.args.tables.timing.now in
     let path = c.requires.some_path in
-    let first : IsFirstOverrun network c.args.least.now.offsets c.in-Overrun.stream = subst (AreEnds network c.args.least.now.offsets) c.in-Overrun.is c.requires.ends in
+    let first : IsFirstOverrun network c.args.least.now.offsets c.in-Overrun.stream =
+    subst (AreEnds network c.args.least.now.offsets) c.in-Overrun.is c.requires.ends in
     short network path.0 c.args.least.now path.1 c.args.tables.right_conflicts.few c.in-Overrun.stream first.counted
 
 pub chain_to-requires-then-end-aim-clause-stream : goal.chain_to-requires-then-end-aim-clause-stream

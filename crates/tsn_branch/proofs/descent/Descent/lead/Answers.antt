@@ -67,7 +67,11 @@ returns-clause-led c =
     (record { arcs = arcs; rises = rises; solved_before = c.push.ensures.solved_before; solved = c.push.ensures.solved }))
     here.split_above)
     (λ chain closed left. (
-      record { releases = c.push.ensures.releases ∙ here.releases; arcs = ap (λ (stack : Stack). stack.least.arcs) left ∙ here.arcs; split_above = here.split_above },
+      record {
+        releases = c.push.ensures.releases ∙ here.releases;
+        arcs = ap (λ (stack : Stack). stack.least.arcs) left ∙ here.arcs;
+        split_above = here.split_above;
+      },
       subst (λ p. Refutes (length (releases_of network)) (arcs_of network p) chain.items) there_is
           (refutes_down network front last.triple last.side c.self.inside.node c.self.inside.stack chain.items node here.releases here.arcs
           (subst (λ (a : Arc). Refutes (length c.self.inside.stack.least.releases) (c.self.inside.stack.least.arcs ++ a ∷ []) chain.items) arc closed)),

@@ -27,7 +27,8 @@ pub draw_back-requires-in-Err : goal.draw_back-requires-in-Err
 draw_back-requires-in-Err c = (c.args.tables.timing.now, of_none _ _ c.in_ok-cycle.field-0 c.in_default.is c.in_ok-cycle.ensures.led)
 
 pub returns-in-Err-clause-err : goal.returns-in-Err-clause-err
-returns-in-Err-clause-err c = c.draw_back-in-Err.ensures.stands c.args.tables.timing.now (of_none _ _ c.in_ok-cycle.field-0 c.in_default.is c.in_ok-cycle.ensures.led)
+returns-in-Err-clause-err c =
+    c.draw_back-in-Err.ensures.stands c.args.tables.timing.now (of_none _ _ c.in_ok-cycle.field-0 c.in_default.is c.in_ok-cycle.ensures.led)
 
 pub returns-in-Some-clause-first_case : goal.returns-in-Some-clause-first_case
 returns-in-Some-clause-first_case c =
