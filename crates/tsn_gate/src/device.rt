@@ -63,7 +63,12 @@ fn write_closed(text: &mut String, list: &GateList) -> Result<(), AllocError>
 fn has_background(entries: &[GateEntry]) -> bool
     ensures { result ≡ has_background entries.now }
 {
-    entries.iter().any(|entry| entry.octet == BACKGROUND)
+    for entry in entries {
+        if entry.octet == BACKGROUND {
+            return true;
+        }
+    }
+    false
 }
 
 // Writes what a device doesn't take of a list.
@@ -119,5 +124,10 @@ fn write_short(text: &mut String, list: &GateList, least: u64) -> Result<(), All
 fn is_short(entries: &[GateEntry], least: u64) -> bool
     ensures { result ≡ is_short least entries.now }
 {
-    entries.iter().any(|entry| entry.interval < least)
+    for entry in entries {
+        if entry.interval < least {
+            return true;
+        }
+    }
+    false
 }

@@ -2,7 +2,7 @@
 ghost use Rattle.std.specs.Prelude.{◌≡◌, ◌++◌, ◌≤◌, ◌<◌, ◌↔◌, IsTrue, OnOk, length, string_bytes, IfOk, IfErr};
 ghost use Rattle.tsn_model.specs.Network.{link_at};
 ghost use Rattle.tsn_model.specs.Gates.{cycle_of, IsOctetAt};
-ghost use Rattle.tsn_gate.specs.Entries.{AllPositive, IsGateList};
+ghost use Rattle.tsn_gate.specs.Entries.{AllLast, IsGateList};
 ghost use Rattle.tsn_gate.specs.Fault.{HasGateFault};
 ghost use Rattle.tsn_gate.specs.Table.{entry_text, head_text, table_text, name_at};
 
@@ -48,7 +48,7 @@ impl GateList {
         ensures taken { IfOk result (λ list. IsGateList entries.now) }
         ensures fault { IfErr result (HasGateFault entries.now) }
     {
-        if entries.is_empty() || !all_positive(entries) {
+        if entries.is_empty() || !all_last(entries, 1) {
             return Err(GateFault::Empty);
         }
         if !is_short(entries) {
@@ -167,19 +167,27 @@ fn write_entry(text: &mut String, entry: GateEntry) -> Result<(), AllocError>
 }
 
 // How long the entries last.
-#[tactic(auto, unfolding(tsn_model::specs::Gates::cycle_of))]
 fn total(entries: &[GateEntry]) -> u64
     requires { cycle_of entries.now ≤ LONGEST_CYCLE }
     ensures { result ≡ cycle_of entries.now }
 {
-    entries.iter().map(|entry| entry.interval).sum()
+    let mut time = 0;
+    for entry in entries {
+        time += entry.interval;
+    }
+    time
 }
 
-// Whether each entry lasts at least 1 ns.
-fn all_positive(entries: &[GateEntry]) -> bool
-    ensures { IsTrue result ↔ AllPositive entries.now }
+/// Whether each entry lasts so long.
+pub(crate) fn all_last(entries: &[GateEntry], least: u64) -> bool
+    ensures { IsTrue result ↔ AllLast least entries.now }
 {
-    entries.iter().all(|entry| entry.interval >= 1)
+    for entry in entries {
+        if entry.interval < least {
+            return false;
+        }
+    }
+    true
 }
 
 // Whether the entries last no longer than the longest cycle.

@@ -1,13 +1,13 @@
 //! Lists with fewer and longer entries, which keep the gates that a schedule asks for.
-ghost use Rattle.std.specs.Prelude.{◌≡◌, ◌≤◌, ◌<◌, ◌↔◌, length, All, IfOk, IsTrue};
+ghost use Rattle.std.specs.Prelude.{◌≡◌, ◌≤◌, ◌<◌, length, All, IfOk};
 ghost use Rattle.tsn_model.specs.Schedule.{IsValid};
 ghost use Rattle.tsn_model.specs.Gates.{cycle_of};
 ghost use Rattle.tsn_model.specs.Kept.{KeepsWantedGates};
-ghost use Rattle.tsn_gate.specs.Entries.{AllLast, IsGateList};
+ghost use Rattle.tsn_gate.specs.Entries.{IsGateList};
 ghost use Rattle.tsn_gate.specs.Merged.{IsMerged, AreMerged, AreMergedLists, AreListsBy, IsWidened};
 
 use crate::kept::times_kept;
-use crate::list::GateList;
+use crate::list::{GateList, all_last};
 use crate::lists::gate_lists;
 use crate::widened::widened;
 use std::alloc::{AllocError, Global};
@@ -100,10 +100,4 @@ fn changed(
 {
     let kept = times_kept(alloc, entries, least, cycle)?;
     widened(alloc, entries, &kept, least, cycle)
-}
-
-fn all_last(entries: &[GateEntry], least: u64) -> bool
-    ensures { IsTrue result ↔ AllLast least entries.now }
-{
-    entries.iter().all(|entry| entry.interval >= least)
 }
