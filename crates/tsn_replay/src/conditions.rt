@@ -53,13 +53,23 @@ fn names_links(network: &PlainNetwork, lists: &[GateList], background: &Backgrou
 fn all_exist(lists: &[GateList], links: usize) -> bool
     ensures { IsTrue result ↔ All (λ (list : LinkGates). list.link < links) lists.now }
 {
-    lists.iter().all(|list| list.link() < links)
+    for list in lists {
+        if list.link() >= links {
+            return false;
+        }
+    }
+    true
 }
 
 fn is_listed(lists: &[GateList], link: usize) -> bool
     ensures { IsTrue result ↔ IsListed lists.now link }
 {
-    lists.iter().any(|list| list.link() == link)
+    for list in lists {
+        if list.link() == link {
+            return true;
+        }
+    }
+    false
 }
 
 // Whether no two lists are of one link.
@@ -129,14 +139,28 @@ fn keeps_limits(
 fn all_last(lists: &[GateList], cycle: u64) -> bool
     ensures { IsTrue result ↔ All (λ (list : LinkGates). cycle_of list.entries ≡ cycle) lists.now }
 {
-    lists.iter().all(|list| list.cycle() == cycle)
+    for list in lists {
+        if list.cycle() != cycle {
+            return false;
+        }
+    }
+    true
 }
 
 // Whether each background frame has 64 to 1522 octets, and waits from an instant before the end on.
 fn all_within(frames: &[BackgroundFrame], end: u64) -> bool
     ensures { IsTrue result ↔ All (IsWithin end) frames.now }
 {
-    frames.iter().all(|frame| {
-        MIN_OCTETS <= frame.octets && frame.octets <= MAX_OCTETS && frame.wanted < end
-    })
+    for frame in frames {
+        if !is_within(frame, end) {
+            return false;
+        }
+    }
+    true
+}
+
+fn is_within(frame: &BackgroundFrame, end: u64) -> bool
+    ensures { IsTrue result ↔ IsWithin end frame.now }
+{
+    MIN_OCTETS <= frame.octets && frame.octets <= MAX_OCTETS && frame.wanted < end
 }

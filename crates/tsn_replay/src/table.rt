@@ -72,7 +72,13 @@ impl ReplayTable {
 fn late_count(rows: &[Row]) -> usize
     ensures { result ≡ length (filter is_late rows.now) }
 {
-    rows.iter().filter(|row| row.is_late()).count()
+    let mut late = 0;
+    for row in rows {
+        if row.is_late() {
+            late += 1;
+        }
+    }
+    late
 }
 
 // Writes the line of a row.
