@@ -54,6 +54,17 @@ pub struct State {
     starts: Starts,
 }
 
+impl State {
+    ghost use Rattle.std.specs.Prelude.{◌≡◌};
+
+    // What is kept of the starts.
+    fn into_starts(self) -> Starts
+        ensures { result ≡ self.starts }
+    {
+        self.starts
+    }
+}
+
 /// A background frame that starts on a link, and when the wire is free again.
 #[derive(Clone, Copy)]
 pub struct Sending {
@@ -69,10 +80,22 @@ impl Replay<'_> {
         ensures { IfOk result (AreStarts (setting_of self.now)) }
     {
         let mut state = self.begin(alloc)?;
+        let taken = self.take_steps(&mut state);
+        let starts = state.into_starts();
+        taken?;
+        Ok(starts)
+    }
+
+    // Takes what starts first of all starts, until there is nothing more before the end.
+    fn take_steps(&self, state: &mut State) -> Result<(), AllocError>
+        requires setting { IsSetting (setting_of self.now) }
+        requires state { IsState (setting_of self.now) state.old }
+        ensures { IfOk result (λ _. AreStarts (setting_of self.now) state.new.starts) }
+    {
         while let Some(number) = state.ports.first(state.end) {
-            self.step(&mut state, number)?;
+            self.step(state, number)?;
         }
-        Ok(state.starts)
+        Ok(())
     }
 
     // The state before any start.

@@ -3,7 +3,7 @@ use Rattle.tsn_replay.specs.declared.port.Port.{Port}
 use Rattle.tsn_replay.specs.Ports.{IsFirstPort, port_time, port_in}
 use Rattle.tsn_replay.specs.Progress.{setting_of}
 use Rattle.tsn_replay.proofs.Stepping.{ends_as_starts}
-use Rattle.tsn_replay.proofs.engine.Replay.run.Goals as goal
+use Rattle.tsn_replay.proofs.engine.Replay.take_steps.Goals as goal
 
 -- where no port is first, none starts anything before the end
 all_late : (ports : List Port) (end : ℕ) (first : Option ℕ) → ((number : ℕ) → first ≡ Some number → ⊥)
@@ -15,4 +15,4 @@ all_late ports end (Some number) none first = absurd (none number refl)
 pub returns : goal.returns
 returns c =
     let state = c.loop-number.state in
-    ends_as_starts (setting_of c.args.self.now) state c.requires c.loop-number.invariant (all_late state.ports state.end c.first.result c.in_default.not-Some c.first.ensures)
+    ends_as_starts (setting_of c.args.self.now) state c.requires.setting c.loop-number.invariant (all_late state.ports state.end c.first.result c.in_default.not-Some c.first.ensures)

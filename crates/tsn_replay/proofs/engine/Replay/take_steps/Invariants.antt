@@ -1,5 +1,5 @@
 use Rattle.tsn_replay.specs.Progress.{setting_of, IsState, time_left}
-use Rattle.tsn_replay.proofs.engine.Replay.run.Given as goal
+use Rattle.tsn_replay.proofs.engine.Replay.take_steps.Given as goal
 
 abbrev pub invariant-loop-number : goal.invariant-loop-number
 invariant-loop-number l = IsState (setting_of l.self) l.state
