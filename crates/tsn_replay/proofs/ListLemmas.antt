@@ -1,7 +1,7 @@
 -- An element put between two lists, and the elements before a number.
-use Rattle.std.proofs.Common.{◌≡◌, ℕ, ◌≤◌, ◌<◌, List, [], ◌∷◌, ◌++◌, min, take, length, get_or, All, arith}
+use Rattle.std.proofs.Common.{◌≡◌, ℕ, ◌+◌, ◌≤◌, ◌<◌, List, [], ◌∷◌, ◌++◌, min, take, length, get_or, All, sym, ap, ◌∙◌, arith}
 use Rattle.std.proofs.Math.Nat.{min-le_left, le-min}
-use Rattle.std.proofs.lemmas.List.{get_or-take, length-take}
+use Rattle.std.proofs.lemmas.List.{get_or-take, length-take, take_more}
 use Rattle.std.specs.List.{AllPairs}
 use Rattle.std.proofs.lemmas.List.Elements.{All-head, All-tail, All-cons}
 use Rattle.std.proofs.lemmas.List.Kept.{AllPairs-cons}
@@ -17,6 +17,12 @@ AllPairs-insert R (x ∷ xs) ys y pairs all turn =
     AllPairs-cons R x ((xs ++ y ∷ []) ++ ys)
     (All-insert (R x) xs ys y (AllPairs-head R x (xs ++ ys) pairs) (All-head (λ z. R z y) x (xs ++ ys) all))
     (AllPairs-insert R xs ys y (AllPairs-tail R x (xs ++ ys) pairs) (All-tail (λ z. R z y) x (xs ++ ys) all) turn)
+
+-- one more of them is read
+pub taken_more : {X : Type 0} (xs : List X) (i : ℕ) (d : X) (before after : List X) (x : X) → i < length xs → before ≡ take i xs
+    → after ≡ before ++ x ∷ [] → x ≡ get_or xs i d → after ≡ take (i + 1) xs
+taken_more xs i d before after x below is pushed here =
+    pushed ∙ ap (λ (ys : List _). ys ++ x ∷ []) is ∙ ap (λ y. take i xs ++ y ∷ []) here ∙ sym (take_more xs i d below)
 
 -- the elements before a number
 pub taken_below : {X : Type 0} (n : ℕ) (xs : List X) (k : ℕ) → k < length (take n xs) → k < n

@@ -1,8 +1,9 @@
 -- The table of starts, and the rows that it gives.
-use Rattle.std.proofs.Common.{◌≡◌, ℕ, ◌+◌, ◌*◌, ◌≤◌, ◌<◌, ◌↔◌, List, [], ◌∷◌, ◌++◌, map, take, drop, length, get_or, slice_set, Option, Some, None, All, Contains, refl, sym, ap, ◌∙◌, subst, arith, inl, inr, append-nil, mul-le-mul, eq-eqb, false, not}
+use Rattle.std.proofs.Common.{◌≡◌, ℕ, ◌+◌, ◌*◌, ◌≤◌, ◌<◌, ◌↔◌, List, [], ◌∷◌, ◌++◌, map, take, drop, length, get_or, slice_set, replicate, Option, Some, None, All, Contains, refl, sym, ap, ◌∙◌, subst, arith, inl, inr, append-nil, mul-le-mul, eq-eqb, false, not}
 use Rattle.std.specs.List.{flat_map, range_with_len}
 use Rattle.std.proofs.lemmas.Grind.{flat_map-append}
-use Rattle.std.proofs.lemmas.List.{map-append, take_more, take-append-drop, get_or_default, get_or-set_same, get_or-set_other, length-set}
+use Rattle.std.proofs.Math.ListN.{get_or-eq_default}
+use Rattle.std.proofs.lemmas.List.{map-append, take_more, take-append-drop, get_or_default, get_or-set_same, get_or-set_other, get_or-replicate, length-replicate, length-set}
 use Rattle.std.proofs.lemmas.List.FromFn.{map-range_with_len_more}
 use Rattle.std.proofs.lemmas.List.Elements.{All-map, All-weaker, All-contains_itself, Contains-push, Contains-push_cases, Contains-append_left}
 use Rattle.tsn_model.specs.Network.{Network, IsWellFormed, stream_count, hop_count}
@@ -51,6 +52,23 @@ cell_room network formed width wide cycle stream hop frame early counted below i
       inside = omega arith;
       few = mul-le-mul (cells-few network formed (cycle + 1) (omega arith)) wide.few;
     }
+
+none_in : (count k : ℕ) → get_or (replicate {A = Option ℕ} count None) k None ≡ None
+none_in count k = grind (arith, get_or-replicate, replicate, length-replicate, get_or-eq_default)
+
+-- before any start it is empty
+pub table_none : (network : Network) (width cycles count : ℕ) (table : List (Option ℕ)) → count ≡ cycles * frames_of network * width
+    → table ≡ replicate count None → IsTable network width cycles [] table
+table_none network width cycles count table size is = record {
+  count = ap length is ∙ length-replicate count None ∙ size;
+  has = λ passage t within. (
+    λ found.
+        let cell = cell_of network width passage in
+        let nothing = ap (λ cells. get_or cells cell None) is ∙ none_in count cell in
+        absurd (cc (found, nothing)),
+    λ (k, below, same). absurd (omega arith),
+  );
+}
 
 module _ (network : Network) (width : ℕ) (wide : IsWidth network width) (cycles : ℕ) where
   hop_covered : (p : Passage) → IsPassage network cycles p → p.hop < width

@@ -1,5 +1,5 @@
 -- The start of a scheduled frame keeps the state of a replay, said of what the code reads and computes.
-use Rattle.std.proofs.Common.{◌≡◌, ℕ, ◌+◌, ◌≤◌, ◌<◌, ◌^◌, Vec, Global, All, length, get_or, slice_set, Some, refl, sym, ap, ◌∙◌, subst, arith}
+use Rattle.std.proofs.Common.{◌≡◌, ℕ, ◌+◌, ◌-◌, ◌≤◌, ◌<◌, ◌^◌, Vec, Global, All, length, get_or, slice_set, sum_by, Some, refl, sym, ap, ◌∙◌, subst, arith}
 use Rattle.std.specs.Vec.{with_item}
 use Rattle.tsn_model.specs.Network.{stream_count, route_of, hop_count, route_link, Continues}
 use Rattle.tsn_model.specs.Timing.{occupancy}
@@ -12,7 +12,7 @@ use Rattle.tsn_replay.specs.Ports.{IsFirstPort, port_in}
 use Rattle.tsn_replay.specs.Progress.{Setting, IsSetting, IsUnderWay, IsPortAt, IsState, IsOnward, AreMoved, arrived}
 use Rattle.tsn_replay.proofs.PassageStarts.{with_passage}
 use Rattle.tsn_replay.proofs.Steps.{read_frame}
-use Rattle.tsn_replay.proofs.Stepping.{link, link_is, below, waiting_below, hop_below, stream_below, sooner_here, started_under_way, started_others}
+use Rattle.tsn_replay.proofs.Stepping.{link, link_is, below, waiting_below, hop_below, stream_below, sooner_here, started_under_way, started_falls, started_others}
 
 module _ (setting : Setting) (state : State) (can : IsSetting setting) (is : IsState setting state) (number : ℕ) (first : IsFirstPort state.ports state.end number)
     (waiting : ℕ) (head : (port_in state.ports number).head ≡ Some waiting) (time : ℕ) (time_is : (port_in state.ports number).scheduled ≡ time) (order : time ≤ (port_in state.ports number).background)
@@ -57,6 +57,12 @@ module _ (setting : Setting) (state : State) (can : IsSetting setting) (is : IsS
 
     pub starting_under_way : IsUnderWay setting after
     starting_under_way = started_under_way setting state can is number first waiting head time time_is order
+        frame frame_is duration occupies some short frames.items are early starts starts_are
+        frames refl (with_item state.free at (time + duration))
+        (ap (λ l. slice_set state.free.items l (time + duration)) (sym on))
+
+    pub starting_falls : sum_by (λ t. state.end - t) (with_item state.free at (time + duration)).items < sum_by (λ t. state.end - t) state.free.items
+    starting_falls = started_falls setting state can is number first waiting head time time_is order
         frame frame_is duration occupies some short frames.items are early starts starts_are
         frames refl (with_item state.free at (time + duration))
         (ap (λ l. slice_set state.free.items l (time + duration)) (sym on))

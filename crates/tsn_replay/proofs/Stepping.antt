@@ -211,6 +211,15 @@ module _ (setting : Setting) (state : State) (can : IsSetting setting) (is : IsS
               readies = subst (All (λ (f : Frame). f.ready ≤ 2 ^ 50)) (sym frames_are) early;
             }
 
+        pub started_falls : sum_by (λ t. state.end - t) free.items < sum_by (λ t. state.end - t) state.free.items
+        started_falls =
+            let soon = in_time in
+            let wire = is_next.wire in_time in
+            let exists = can.lists.links number no_list below in
+            let wires = is.under_way.wires in
+            subst (λ fs. sum_by (λ t. state.end - t) fs < sum_by (λ t. state.end - t) state.free.items) (sym free_is)
+            (time_falls state.free.items link (time + duration) state.end (omega arith) (omega arith) (omega arith))
+
         abbrev cases : (p : ℕ) → (waiting ≡ p)
             ⊎ IsOnward network (passage_of (frame_in state.frames.items waiting)) (passage_of (frame_in state.frames.items p))
             ⊎ (frame_in moved p ≡ frame_in state.frames.items p)

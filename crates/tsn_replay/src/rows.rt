@@ -114,7 +114,6 @@ fn push_frame(
     Ok(())
 }
 
-#[tactic(auto, unfolding(crate::specs::Rows::row_of, tsn_model::specs::Bridge::planned))]
 fn row(times: StartTimes<'_>, cycle: usize, stream: usize, shift: u64, hop: usize) -> Row
     requires times { AreTimes times.timing.now times.offsets.now times.firsts.now times.width times.table.now times.cycles }
     requires cycle { cycle < times.cycles }
@@ -196,7 +195,6 @@ fn width_of(timing: &Timing) -> usize
 }
 
 // Where a passage stands in the table.
-#[tactic(auto, unfolding(crate::specs::Rows::cell_of))]
 fn cell(
     timing: &Timing,
     firsts: &[usize],

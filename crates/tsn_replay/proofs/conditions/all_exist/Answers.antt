@@ -1,5 +1,4 @@
 use Rattle.std.proofs.Common.{◌<◌, refl, ap, arith}
-use Rattle.std.proofs.lemmas.List.{get_or_default}
 use Rattle.tsn_model.specs.Bridge.{LinkGates}
 use Rattle.tsn_gate.proofs.Rest.{all_more, all_done}
 use Rattle.tsn_replay.proofs.conditions.all_exist.Goals as goal

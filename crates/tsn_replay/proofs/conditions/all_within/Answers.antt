@@ -1,5 +1,4 @@
 use Rattle.std.proofs.Common.{refl, sym, ◌∙◌, subst}
-use Rattle.std.proofs.lemmas.Bool.{true≢false}
 use Rattle.tsn_replay.specs.Faults.{IsWithin}
 use Rattle.tsn_gate.proofs.Rest.{all_more, all_done}
 use Rattle.tsn_replay.proofs.conditions.all_within.Goals as goal

@@ -16,3 +16,9 @@ returns-clause-on_time c wanted tolerates =
     (λ link. c.args.slack) tolerates c.args.cycles is.ready is.made is.early in
     subst (All (λ (row : Row). is_late row ≡ false)) (sym c.into_table.ensures)
     (rows_on_time network offsets c.args.cycles is.made c.in_ok-trace.trace.rows is.rows starts)
+
+pub replayed-requires-clause-valid : goal.replayed-requires-clause-valid
+replayed-requires-clause-valid c = c.requires.valid
+
+pub returns-clause-fault : goal.returns-clause-fault
+returns-clause-fault c = tt

@@ -62,3 +62,18 @@ returns-clause-named c =
 
 pub returns-clause-on_time : goal.returns-clause-on_time
 returns-clause-on_time c kept count run is = starts_on_time c.args.problem.now.network (subst IsWellFormed c.deref-2.ensures c.cycle-limits.ensures.well_formed) c.args.valid.now c.requires.valid c.args.lists.now kept count run is
+
+pub returns-in-Some-clause-replayed : goal.returns-in-Some-clause-replayed
+returns-in-Some-clause-replayed c = tt
+
+pub returns-in-Some-clause-named : goal.returns-in-Some-clause-named
+returns-in-Some-clause-named c = tt
+
+pub returns-in-Some-clause-on_time : goal.returns-in-Some-clause-on_time
+returns-in-Some-clause-on_time c = tt
+
+pub returns-in-Some-clause-links : goal.returns-in-Some-clause-links
+returns-in-Some-clause-links c = tt
+
+pub returns-in-Some-clause-limits : goal.returns-in-Some-clause-limits
+returns-in-Some-clause-limits c = tt

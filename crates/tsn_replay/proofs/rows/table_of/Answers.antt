@@ -1,8 +1,9 @@
 use Rattle.std.proofs.Common.{◌≡◌, ◌+◌, ◌*◌, ◌≤◌, Some, slice_set, get_or, take, refl, sym, ap, ◌∙◌, subst, arith, mul-le-mul}
+use Rattle.std.proofs.lemmas.Grind.{common_steps}
 use Rattle.tsn_replay.specs.Frames.{frames_below, frames_of}
 use Rattle.tsn_replay.proofs.Counting.{cells-few}
 use Rattle.tsn_replay.specs.Rows.{cell_of, IsTable}
-use Rattle.tsn_replay.proofs.ReplayTables.{table_more}
+use Rattle.tsn_replay.proofs.ReplayTables.{table_more, table_none}
 use Rattle.tsn_replay.proofs.rows.table_of.Goals as goal
 
 pub loop-started-preserved : goal.loop-started-preserved
@@ -39,3 +40,17 @@ overflow_mul-cycles-2 c =
     let frames : c.args.cycles * get_or c.args.firsts.now c.streams.result 0 ≤ 1048576 = omega arith in
     let cells : c.args.cycles * get_or c.args.firsts.now c.streams.result 0 * c.args.width ≤ 1048576 * 64 = mul-le-mul frames c.requires.wide.few in
     omega arith
+
+pub loop-started-init : goal.loop-started-init
+loop-started-init c =
+    let network = c.args.timing.now in
+    let all = c.requires.firsts.each c.streams.result (let counted = c.streams.ensures.value in omega arith)
+    ∙ ap (frames_below network) c.streams.ensures.value in
+    record {
+      table = table_none network c.args.width c.args.cycles _ c.in_ok-table.table.items (ap (λ n. c.args.cycles * n * c.args.width) all)
+          (c.in_ok-table.ensures.items_if_clones_equal (λ y same. grind (arith, common_steps)));
+      last = refl;
+    }
+
+pub cell-cell-requires-clause-spaced : goal.cell-cell-requires-clause-spaced
+cell-cell-requires-clause-spaced c = c.requires.spaced

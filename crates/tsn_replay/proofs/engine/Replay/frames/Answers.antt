@@ -85,3 +85,6 @@ loop-number-preserved c =
       ready = All-set (λ (frame : Frame). frame.ready ≤ 2 ^ 50) frames number new (omega arith) c.loop-number.invariant.ready;
       last = last ∙ sym (length-set frames number new);
     }
+
+pub haste-haste-requires-clause-setting : goal.haste-haste-requires-clause-setting
+haste-haste-requires-clause-setting c = c.requires

@@ -257,3 +257,6 @@ returns-clause-moved c =
     handed_all c.args.self.now.network.now c.requires.setting.formed c.args.self.now.slack c.args.self.now.cycles
     c.args.frames.now.items c.requires.line c.requires.distinct c.args.number c.args.time c.requires.number
     counted c.loop-hop.hop c.loop-hop.frames.items (omega arith) c.loop-hop.invariant.handed
+
+pub haste-haste-requires-clause-setting : goal.haste-haste-requires-clause-setting
+haste-haste-requires-clause-setting c = c.requires.setting

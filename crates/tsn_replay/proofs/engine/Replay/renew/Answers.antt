@@ -64,3 +64,12 @@ returns-clause-state c =
             let last = c.loop-hop.invariant.last in omega arith);
       };
     }
+
+pub list_of-next-requires-clause-state : goal.list_of-next-requires-clause-state
+list_of-next-requires-clause-state c = c.loop-hop.invariant.renewed.under_way
+
+pub renew_port-requires-then-continues-clause-state : goal.renew_port-requires-then-continues-clause-state
+renew_port-requires-then-continues-clause-state c = c.loop-hop.invariant.renewed.under_way
+
+pub returns-clause-free : goal.returns-clause-free
+returns-clause-free c = c.loop-hop.invariant.renewed.free

@@ -24,3 +24,6 @@ loop-number-preserved c =
       ];
       last = refl;
     }
+
+pub renew_port-requires-clause-state : goal.renew_port-requires-clause-state
+renew_port-requires-clause-state c = c.loop-number.invariant.under_way

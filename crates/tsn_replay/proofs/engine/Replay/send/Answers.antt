@@ -71,3 +71,9 @@ returns-clause-falls c =
     sending_falls setting state c.requires.setting c.requires.state c.args.number c.requires.first c.args.port c.requires.port c.requires.order sending c.sending-sending.ensures
     c.note.new.starts c.in_ok-note.ensures c.sent.new.self (c.sent.ensures.feed setting.background (length setting.network.links) c.requires.state.under_way.feed) c.sent.ensures.other
     (c.sent.ensures.sent setting.background (length setting.network.links) c.requires.state.under_way.feed) (with_item state.free sending.link sending.until) refl
+
+pub sending-sending-requires-clause-first : goal.sending-sending-requires-clause-first
+sending-sending-requires-clause-first c = c.requires.first
+
+pub sending-sending-requires-clause-port : goal.sending-sending-requires-clause-port
+sending-sending-requires-clause-port c = c.requires.port
