@@ -2,7 +2,7 @@
 use Rattle.std.proofs.Common.{All, ◌≡◌, ℕ, ◌+◌, ◌%◌, ◌≤◌, ◌<◌, ◌⊎◌, List, [], ◌∷◌, length, get_or, take, refl, ap, arith, inl, inr}
 use Rattle.std.proofs.lemmas.Bool.Decides.{nat_tests}
 use Rattle.std.proofs.lemmas.List.Elements.{All-head, All-tail}
-use Rattle.std.proofs.lemmas.List.Sums.{sum_by-cons}
+use Rattle.std.proofs.lemmas.List.Sums.{sum_by-cons, sum_by_more, sum_by_more_le}
 use Rattle.std.proofs.lemmas.List.FromFn.{get_or-map-range_with_len, length-map-range_with_len}
 use Rattle.std.proofs.Math.Nat.{mod-eq_of_lt}
 use Rattle.tsn_model.specs.declared.GateEntry.{GateEntry}
@@ -42,13 +42,23 @@ time_in-all entry (inr (inr is)) =
     let c = time_in-is background_octet entry is in
     omega arith
 
-time_of-nil : (octet : ℕ) → time_of octet [] ≡ 0
+pub time_of-nil : (octet : ℕ) → time_of octet [] ≡ 0
 unfolding time_of
 time_of-nil octet = refl
 
 time_of-cons : (octet : ℕ) (entry : GateEntry) (entries : List GateEntry) → time_of octet (entry ∷ entries) ≡ time_in octet entry + time_of octet entries
 unfolding time_of
 time_of-cons octet entry entries = sum_by-cons (time_in octet) entry entries
+
+pub time_of_more : (octet : ℕ) (entries : List GateEntry) (i : ℕ) (d : GateEntry) → i < length entries
+    → time_of octet (take (i + 1) entries) ≡ time_of octet (take i entries) + time_in octet (get_or entries i d)
+unfolding time_of
+time_of_more octet entries i d inside = sum_by_more (time_in octet) entries i d inside
+
+pub time_of_part : (octet : ℕ) (entries : List GateEntry) (i : ℕ) (d : GateEntry) → i < length entries
+    → time_of octet (take i entries) + time_in octet (get_or entries i d) ≤ time_of octet entries
+unfolding time_of
+time_of_part octet entries i d inside = sum_by_more_le (time_in octet) entries i d inside
 
 time_of-all : (entries : List GateEntry) → All IsKnown entries → time_of scheduled_octet entries + time_of closed_octet entries + time_of background_octet entries ≡ cycle_of entries
 time_of-all [] all = omega (arith, time_of-nil scheduled_octet, time_of-nil closed_octet, time_of-nil background_octet, cycle_of-nil)

@@ -125,12 +125,15 @@ fn time_of(list: &GateList, octet: u8) -> u64
 }
 
 // How long the entries show the octet.
-#[tactic(auto, unfolding(crate::specs::Shares::time_of))]
 fn time_in_all(entries: &[GateEntry], octet: u8) -> u64
     requires { time_of octet entries.now ≤ 1_000_000_000 }
     ensures { result ≡ time_of octet entries.now }
 {
-    entries.iter().map(|entry| time_in(*entry, octet)).sum()
+    let mut time = 0;
+    for entry in entries {
+        time += time_in(*entry, octet);
+    }
+    time
 }
 
 // How long an entry shows the octet.

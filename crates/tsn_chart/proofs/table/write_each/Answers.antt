@@ -1,0 +1,9 @@
+use Rattle.std.proofs.Common.{refl}
+use Rattle.tsn_model.proofs.More.{written_behind}
+use Rattle.tsn_chart.specs.Table.{listener_line}
+use Rattle.tsn_chart.proofs.table.write_each.Goals as goal
+
+pub loop-listener-preserved : goal.loop-listener-preserved
+loop-listener-preserved c =
+    written_behind (listener_line c.args.problem.now c.args.stream) _ c.args.listeners.now c.loop-listener.listener-index _ _ _ _ c.loop-listener-test.true
+    c.loop-listener.invariant c.in_ok-write_listener.ensures refl
