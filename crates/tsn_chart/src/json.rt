@@ -1,6 +1,6 @@
 //! The lines of JSON.
 ghost use Rattle.std.specs.Prelude.{◌≡◌, ◌++◌, ◌<◌, All, IfOk, OnOk, false, length, string_bytes};
-ghost use Rattle.serde_json.specs.Data.{object};
+ghost use Rattle.serde_json.specs.Data.{no_members, object};
 ghost use Rattle.serde_json.specs.View.{members_view, view};
 ghost use Rattle.serde_json.specs.Written.{has_float};
 ghost use Rattle.tsn_chart.specs.Json.{line_text, link_json, link_value, listener_value, listener_values, slack_json, slack_value, stream_json, stream_members, stream_value, windows_value, with_frames, with_listeners};
@@ -68,19 +68,28 @@ fn stream_members(
     ensures { IfOk result (λ members. members_view members.entries ≡ stream_members problem.now share.now) }
 {
     let mut members = Map::new(alloc);
-    put_number(&mut members, alloc, "arrival", share.arrival)?;
-    put_number(&mut members, alloc, "latency", share.latency)?;
-    put_number(&mut members, alloc, "offset", share.offset)?;
-    put_number(&mut members, alloc, "span", share.span)?;
-    put_text(
-        &mut members,
-        alloc,
-        "stream",
-        problem.stream_name(share.stream),
-    )?;
-    put_number(&mut members, alloc, "to_latest", share.to_latest)?;
-    put_number(&mut members, alloc, "to_period_end", share.to_period_end)?;
+    put_stream(&mut members, alloc, problem, share)?;
     Ok(members)
+}
+
+// Makes the members of a stream's object.
+fn put_stream(
+    members: &mut Map<String, Value>,
+    alloc: Global,
+    problem: &Problem,
+    share: &StreamShare,
+) -> Result<(), AllocError>
+    requires none { members_view members.old.entries ≡ no_members }
+    requires stream { share.now.stream < length problem.now.stream_names }
+    ensures { OnOk result (members_view members.new.entries ≡ stream_members problem.now share.now) }
+{
+    put_number(members, alloc, "arrival", share.arrival)?;
+    put_number(members, alloc, "latency", share.latency)?;
+    put_number(members, alloc, "offset", share.offset)?;
+    put_number(members, alloc, "span", share.span)?;
+    put_text(members, alloc, "stream", problem.stream_name(share.stream))?;
+    put_number(members, alloc, "to_latest", share.to_latest)?;
+    put_number(members, alloc, "to_period_end", share.to_period_end)
 }
 
 // Adds the period of a stream and its frames in it, where some stream sends several a cycle.
@@ -146,14 +155,28 @@ fn listener_value(
     requires { share.now.link < length problem.now.network.links }
     ensures { IfOk result (λ value. view value ≡ listener_value problem.now share.now) }
 {
-    let (_, listener) = names(problem, share.link);
     let mut members = Map::new(alloc);
-    put_number(&mut members, alloc, "arrival", share.arrival)?;
-    put_number(&mut members, alloc, "latency", share.latency)?;
-    put_number(&mut members, alloc, "link", share.link as u64)?;
-    put_text(&mut members, alloc, "listener", listener)?;
-    put_number(&mut members, alloc, "to_latest", share.to_latest)?;
+    put_listener(&mut members, alloc, problem, share)?;
     Ok(Value::Object(members))
+}
+
+// Makes the members of a listener's object.
+fn put_listener(
+    members: &mut Map<String, Value>,
+    alloc: Global,
+    problem: &Problem,
+    share: &ListenerShare,
+) -> Result<(), AllocError>
+    requires none { members_view members.old.entries ≡ no_members }
+    requires link { share.now.link < length problem.now.network.links }
+    ensures { OnOk result (object (members_view members.new.entries) ≡ listener_value problem.now share.now) }
+{
+    let (_, listener) = names(problem, share.link);
+    put_number(members, alloc, "arrival", share.arrival)?;
+    put_number(members, alloc, "latency", share.latency)?;
+    put_number(members, alloc, "link", share.link as u64)?;
+    put_text(members, alloc, "listener", listener)?;
+    put_number(members, alloc, "to_latest", share.to_latest)
 }
 
 fn link_value(alloc: Global, problem: &Problem, share: &LinkShare) -> Result<Value, AllocError>
@@ -181,17 +204,31 @@ fn link_members(
     requires { share.now.link < length problem.now.network.links }
     ensures { IfOk result (λ members. object (members_view members.entries) ≡ link_value problem.now share.now) }
 {
-    let (from, to) = names(problem, share.link);
     let mut members = Map::new(alloc);
-    put_text(&mut members, alloc, "from", from)?;
-    put_number(&mut members, alloc, "guard", share.guard)?;
-    put_number(&mut members, alloc, "link", share.link as u64)?;
-    put_number(&mut members, alloc, "longest_open", share.longest_open)?;
-    put_number(&mut members, alloc, "open", share.open)?;
-    put_number(&mut members, alloc, "scheduled", share.scheduled)?;
-    put_number(&mut members, alloc, "slack", share.slack)?;
-    put_text(&mut members, alloc, "to", to)?;
+    put_link(&mut members, alloc, problem, share)?;
     Ok(members)
+}
+
+// Makes the members of a link's object.
+fn put_link(
+    members: &mut Map<String, Value>,
+    alloc: Global,
+    problem: &Problem,
+    share: &LinkShare,
+) -> Result<(), AllocError>
+    requires none { members_view members.old.entries ≡ no_members }
+    requires link { share.now.link < length problem.now.network.links }
+    ensures { OnOk result (object (members_view members.new.entries) ≡ link_value problem.now share.now) }
+{
+    let (from, to) = names(problem, share.link);
+    put_text(members, alloc, "from", from)?;
+    put_number(members, alloc, "guard", share.guard)?;
+    put_number(members, alloc, "link", share.link as u64)?;
+    put_number(members, alloc, "longest_open", share.longest_open)?;
+    put_number(members, alloc, "open", share.open)?;
+    put_number(members, alloc, "scheduled", share.scheduled)?;
+    put_number(members, alloc, "slack", share.slack)?;
+    put_text(members, alloc, "to", to)
 }
 
 fn slack_value(alloc: Global, slack: u64) -> Result<Value, AllocError>
