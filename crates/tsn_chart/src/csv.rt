@@ -1,7 +1,10 @@
 //! The records of comma-separated values (RFC 4180).
-ghost use Rattle.std.specs.Prelude.{◌≡◌, ◌++◌, ◌<◌, All, IfOk, OnOk, length, string_bytes};
+ghost use Rattle.std.specs.Prelude.{◌≡◌, ◌++◌, ◌<◌, All, IfOk, OnOk, codes, length, string_bytes};
 ghost use Rattle.std.specs.List.{flat_map};
-ghost use Rattle.tsn_chart.specs.Csv.{header_text, link_end, link_record, listener_record, plain_end, slack_record, stream_end, stream_record, stream_records};
+ghost use Rattle.tsn_gate.specs.Table.{name_at};
+ghost use Rattle.tsn_model.specs.Network.{link_at};
+ghost use Rattle.tsn_text.specs.Field.{quoted_field};
+ghost use Rattle.tsn_chart.specs.Csv.{header_text, link_end, link_numbers, link_record, listener_numbers, listener_record, plain_end, slack_record, stream_end, stream_numbers, stream_record, stream_records};
 ghost use Rattle.tsn_chart.specs.Listeners.{listener_shares};
 
 use crate::format::Format;
@@ -35,18 +38,11 @@ impl Format for Csv {
         write_listeners(text, problem, share)
     }
 
-    #[tactic(auto, unfolding(crate::specs::Csv::link_head, crate::specs::Csv::link_numbers))]
+    #[tactic(auto, unfolding(crate::specs::Csv::link_head))]
     fn link(text: &mut String, problem: &Problem, share: &LinkShare) -> Result<(), AllocError> {
-        let (from, to) = names(problem, share.link);
         write!(text, ",,,,,,,{},", share.link)?;
-        write_quoted(text, from)?;
-        text.push_str(",")?;
-        write_quoted(text, to)?;
-        write!(
-            text,
-            ",{},{},{},{},{}",
-            share.scheduled, share.guard, share.open, share.longest_open, share.slack
-        )?;
+        write_names(text, problem, share.link)?;
+        write_link_numbers(text, share)?;
         end_link(text, problem, share)
     }
 
@@ -70,18 +66,25 @@ pub fn header(alloc: Global, problem: &Problem) -> Result<String, AllocError>
 }
 
 // Writes a stream's record.
-#[tactic(auto, unfolding(crate::specs::Csv::stream_numbers))]
 fn write_stream(text: &mut String, problem: &Problem, share: &StreamShare) -> Result<(), AllocError>
     requires { share.now.stream < length problem.now.stream_names }
     ensures { OnOk result (string_bytes text.new ≡ string_bytes text.old ++ stream_record problem.now share.now) }
 {
     write_quoted(text, problem.stream_name(share.stream))?;
+    write_stream_numbers(text, share)?;
+    end_stream(text, problem, share)
+}
+
+// Writes a stream's numbers, each after a comma, and the empty fields of a link.
+#[tactic(auto, unfolding(crate::specs::Csv::stream_numbers))]
+fn write_stream_numbers(text: &mut String, share: &StreamShare) -> Result<(), AllocError>
+    ensures { OnOk result (string_bytes text.new ≡ string_bytes text.old ++ stream_numbers share.now) }
+{
     write!(
         text,
         ",{},{},{},{},{},{},,,,,,,,",
         share.offset, share.latency, share.arrival, share.to_latest, share.span, share.to_period_end
-    )?;
-    end_stream(text, problem, share)
+    )
 }
 
 // Writes a record for each listener of a stream, where they are several.
@@ -118,7 +121,6 @@ fn write_each(
 }
 
 // Writes the record of a listener of a stream.
-#[tactic(auto, unfolding(crate::specs::Csv::listener_numbers))]
 fn write_listener(
     text: &mut String,
     problem: &Problem,
@@ -129,18 +131,46 @@ fn write_listener(
     requires link { share.now.link < length problem.now.network.links }
     ensures { OnOk result (string_bytes text.new ≡ string_bytes text.old ++ listener_record problem.now stream share.now) }
 {
-    let (from, to) = names(problem, share.link);
     write_quoted(text, problem.stream_name(stream))?;
+    write_listener_numbers(text, share)?;
+    write_names(text, problem, share.link)?;
+    text.push_str(",,,,,")?;
+    end_plain(text, problem)
+}
+
+// Writes a listener's numbers of those that a stream has, each after a comma, and its link's number.
+#[tactic(auto, unfolding(crate::specs::Csv::listener_numbers))]
+fn write_listener_numbers(text: &mut String, share: &ListenerShare) -> Result<(), AllocError>
+    ensures { OnOk result (string_bytes text.new ≡ string_bytes text.old ++ listener_numbers share.now) }
+{
     write!(
         text,
         ",,{},{},{},,,{},",
         share.latency, share.arrival, share.to_latest, share.link
-    )?;
+    )
+}
+
+// Writes the names in quotes of the nodes that a link joins.
+fn write_names(text: &mut String, problem: &Problem, link: usize) -> Result<(), AllocError>
+    requires { link < length problem.now.network.links }
+    ensures { OnOk result (string_bytes text.new ≡ string_bytes text.old ++ (quoted_field (name_at problem.now (link_at problem.now.network link).from) ++ (codes "," ++ quoted_field (name_at problem.now (link_at problem.now.network link).to)))) }
+{
+    let (from, to) = names(problem, link);
     write_quoted(text, from)?;
     text.push_str(",")?;
-    write_quoted(text, to)?;
-    text.push_str(",,,,,")?;
-    end_plain(text, problem)
+    write_quoted(text, to)
+}
+
+// Writes a link's numbers, each after a comma.
+#[tactic(auto, unfolding(crate::specs::Csv::link_numbers))]
+fn write_link_numbers(text: &mut String, share: &LinkShare) -> Result<(), AllocError>
+    ensures { OnOk result (string_bytes text.new ≡ string_bytes text.old ++ link_numbers share.now) }
+{
+    write!(
+        text,
+        ",{},{},{},{},{}",
+        share.scheduled, share.guard, share.open, share.longest_open, share.slack
+    )
 }
 
 // Ends a stream's record: with its period and its frames in it, where some stream sends several a cycle.

@@ -4,7 +4,7 @@ ghost use Rattle.std.specs.List.{flat_map};
 ghost use Rattle.tsn_gate.specs.Table.{name_at};
 ghost use Rattle.tsn_model.specs.Network.{link_at};
 ghost use Rattle.tsn_chart.specs.Listeners.{listener_shares};
-ghost use Rattle.tsn_chart.specs.Table.{link_end, link_head, link_line, listener_line, slack_line, stream_end, stream_line, stream_lines};
+ghost use Rattle.tsn_chart.specs.Table.{link_end, link_head, link_line, link_numbers, listener_head, listener_line, listener_numbers, slack_line, stream_end, stream_line, stream_lines, stream_numbers};
 
 use crate::format::Format;
 use crate::frames::sends_several;
@@ -32,14 +32,9 @@ impl Format for Table {
         write_listeners(text, problem, share)
     }
 
-    #[tactic(auto, unfolding(crate::specs::Table::link_numbers))]
     fn link(text: &mut String, problem: &Problem, share: &LinkShare) -> Result<(), AllocError> {
         begin_link(text, problem, share.link)?;
-        write!(
-            text,
-            " scheduled {} guard {} open {} longest_open {} slack {}",
-            share.scheduled, share.guard, share.open, share.longest_open, share.slack
-        )?;
+        write_link_numbers(text, share)?;
         end_link(text, problem, share)
     }
 
@@ -50,19 +45,26 @@ impl Format for Table {
 }
 
 // Writes a stream's line.
-#[tactic(auto, unfolding(crate::specs::Table::stream_numbers))]
 fn write_stream(text: &mut String, problem: &Problem, share: &StreamShare) -> Result<(), AllocError>
     requires { share.now.stream < length problem.now.stream_names }
     ensures { OnOk result (string_bytes text.new ≡ string_bytes text.old ++ stream_line problem.now share.now) }
 {
     text.push_str("stream ")?;
     text.push_str(problem.stream_name(share.stream))?;
+    write_stream_numbers(text, share)?;
+    end_stream(text, problem, share)
+}
+
+// Writes a stream's numbers, each after its word.
+#[tactic(auto, unfolding(crate::specs::Table::stream_numbers))]
+fn write_stream_numbers(text: &mut String, share: &StreamShare) -> Result<(), AllocError>
+    ensures { OnOk result (string_bytes text.new ≡ string_bytes text.old ++ stream_numbers share.now) }
+{
     write!(
         text,
         " offset {} latency {} arrival {} to_latest {} span {} to_period_end {}",
         share.offset, share.latency, share.arrival, share.to_latest, share.span, share.to_period_end
-    )?;
-    end_stream(text, problem, share)
+    )
 }
 
 // Writes a line for each listener of a stream, where they are several.
@@ -99,7 +101,6 @@ fn write_each(
 }
 
 // Writes the line of a listener of a stream.
-#[tactic(auto, unfolding(crate::specs::Table::listener_head, crate::specs::Table::listener_numbers))]
 fn write_listener(
     text: &mut String,
     problem: &Problem,
@@ -111,10 +112,26 @@ fn write_listener(
     ensures { OnOk result (string_bytes text.new ≡ string_bytes text.old ++ listener_line problem.now stream share.now) }
 {
     let (_, listener) = names(problem, share.link);
-    let name = problem.stream_name(stream);
+    begin_listener(text, listener, problem.stream_name(stream))?;
+    write_listener_numbers(text, share)
+}
+
+// Begins a listener's line: with its name, and that of the stream that it hears.
+#[tactic(auto, unfolding(crate::specs::Table::listener_head))]
+fn begin_listener(text: &mut String, listener: &str, stream: &str) -> Result<(), AllocError>
+    ensures { OnOk result (string_bytes text.new ≡ string_bytes text.old ++ listener_head listener.now stream.now) }
+{
+    write!(text, "listener {listener} stream {stream}")
+}
+
+// Ends a listener's line: with its numbers, each after its word.
+#[tactic(auto, unfolding(crate::specs::Table::listener_numbers))]
+fn write_listener_numbers(text: &mut String, share: &ListenerShare) -> Result<(), AllocError>
+    ensures { OnOk result (string_bytes text.new ≡ string_bytes text.old ++ listener_numbers share.now) }
+{
     write!(
         text,
-        "listener {listener} stream {name} link {} latency {} arrival {} to_latest {}\n",
+        " link {} latency {} arrival {} to_latest {}\n",
         share.link, share.latency, share.arrival, share.to_latest
     )
 }
@@ -127,6 +144,18 @@ fn begin_link(text: &mut String, problem: &Problem, link: usize) -> Result<(), A
 {
     let (from, to) = names(problem, link);
     write!(text, "link {link} {from} {to}")
+}
+
+// Writes a link's numbers, each after its word.
+#[tactic(auto, unfolding(crate::specs::Table::link_numbers))]
+fn write_link_numbers(text: &mut String, share: &LinkShare) -> Result<(), AllocError>
+    ensures { OnOk result (string_bytes text.new ≡ string_bytes text.old ++ link_numbers share.now) }
+{
+    write!(
+        text,
+        " scheduled {} guard {} open {} longest_open {} slack {}",
+        share.scheduled, share.guard, share.open, share.longest_open, share.slack
+    )
 }
 
 // Ends a stream's line: with its period and its frames in it, where some stream sends several a cycle.
