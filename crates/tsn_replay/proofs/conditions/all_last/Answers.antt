@@ -15,9 +15,10 @@ loop-list-preserved c =
 
 pub returns-then-cycle : goal.returns-then-cycle
 returns-then-cycle c =
-    let is = ap (λ (list : LinkGates). cycle_of list.entries) c.list-item.is in
-    (λ yes. absurd (cc yes),
-    λ all. absurd (c.if-cycle.true (c.cycle.ensures.value ∙ is ∙ all c.loop-list.list-index c.list-item.result c.loop-list-test.true)))
+    let is = ap (λ (list : LinkGates). cycle_of list.entries) c.list-item.is in (
+      λ yes. absurd (cc yes),
+      λ all. absurd (c.if-cycle.true (c.cycle.ensures.value ∙ is ∙ all c.loop-list.list-index c.list-item.result c.loop-list-test.true)),
+    )
 
 pub returns : goal.returns
 returns c = (
