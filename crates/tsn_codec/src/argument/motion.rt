@@ -293,50 +293,68 @@ fn motion(tokens: &mut Tokens<'_>, word: &str) -> Result<Move, Unread>
         Ok(Move::Go(order(tokens)?))
     } else if word == "turn" {
         Ok(Move::Turn(order(tokens)?))
-    } else if word == "use" {
+    } else {
+        numbered_motion(tokens, word)
+    }
+}
+
+// The same of the words behind the first two.
+fn numbered_motion(tokens: &mut Tokens<'_>, word: &str) -> Result<Move, Unread>
+    ensures { Takes (λ motion. motion) result ((row_of (drop 2 motions) word.now).rest tokens.old) tokens.new }
+{
+    if word == "use" {
         Ok(Move::Use(last_number(tokens)? as usize))
+    } else if word == "arrive" {
+        Ok(Move::Arrive(last_number(tokens)? as usize))
+    } else {
+        placed_motion(tokens, word)
+    }
+}
+
+// The same of the words behind the first four.
+fn placed_motion(tokens: &mut Tokens<'_>, word: &str) -> Result<Move, Unread>
+    ensures { Takes (λ motion. motion) result ((row_of (drop 4 motions) word.now).rest tokens.old) tokens.new }
+{
+    if word == "last" {
+        Ok(Move::Last(placing(tokens)?))
+    } else if word == "first" {
+        Ok(Move::First(placing(tokens)?))
     } else {
         later_motion(tokens, word)
     }
 }
 
-// The same of the words behind the first three.
-fn later_motion(tokens: &mut Tokens<'_>, word: &str) -> Result<Move, Unread>
-    ensures { Takes (λ motion. motion) result ((row_of (drop 3 motions) word.now).rest tokens.old) tokens.new }
-{
-    if word == "arrive" {
-        Ok(Move::Arrive(last_number(tokens)? as usize))
-    } else if word == "last" {
-        Ok(Move::Last(placing(tokens)?))
-    } else if word == "first" {
-        Ok(Move::First(placing(tokens)?))
-    } else {
-        last_motion(tokens, word)
-    }
-}
-
 // The same of the words behind the first six.
-fn last_motion(tokens: &mut Tokens<'_>, word: &str) -> Result<Move, Unread>
+fn later_motion(tokens: &mut Tokens<'_>, word: &str) -> Result<Move, Unread>
     ensures { Takes (λ motion. motion) result ((row_of (drop 6 motions) word.now).rest tokens.old) tokens.new }
 {
     if word == "pack" {
         pack(tokens)
     } else if word == "round" {
         round(tokens)
-    } else if word == "follow" {
+    } else {
+        last_motion(tokens, word)
+    }
+}
+
+// The same of the words behind the first eight.
+fn last_motion(tokens: &mut Tokens<'_>, word: &str) -> Result<Move, Unread>
+    ensures { Takes (λ motion. motion) result ((row_of (drop 8 motions) word.now).rest tokens.old) tokens.new }
+{
+    if word == "follow" {
         follow(tokens)
+    } else if word == "fill" {
+        Ok(Move::Fill(filling(tokens)?))
     } else {
         room_motion(tokens, word)
     }
 }
 
-// The same of the last three words.
+// The same of the last two words.
 fn room_motion(tokens: &mut Tokens<'_>, word: &str) -> Result<Move, Unread>
-    ensures { Takes (λ motion. motion) result ((row_of (drop 9 motions) word.now).rest tokens.old) tokens.new }
+    ensures { Takes (λ motion. motion) result ((row_of (drop 10 motions) word.now).rest tokens.old) tokens.new }
 {
-    if word == "fill" {
-        Ok(Move::Fill(filling(tokens)?))
-    } else if word == "fill_back" {
+    if word == "fill_back" {
         Ok(Move::FillBack(filling(tokens)?))
     } else if word == "waste" {
         Ok(Move::Waste(wasting(tokens)?))

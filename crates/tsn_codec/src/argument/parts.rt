@@ -126,7 +126,16 @@ fn fact(tokens: &mut Tokens<'_>, word: &str) -> Result<Fact, Unread>
     } else if word == "until" {
         let (stream, time) = bound(tokens)?;
         Ok(Fact::Until(stream, time))
-    } else if word == "order" {
+    } else {
+        order_fact(tokens, word)
+    }
+}
+
+// The same of the words behind the first two.
+fn order_fact(tokens: &mut Tokens<'_>, word: &str) -> Result<Fact, Unread>
+    ensures { Takes (λ fact. fact) result ((row_of (drop 2 facts) word.now).rest tokens.old) tokens.new }
+{
+    if word == "order" {
         Ok(Fact::Order(order(tokens)?))
     } else {
         done_fact(tokens, word)

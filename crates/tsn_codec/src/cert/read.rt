@@ -184,7 +184,16 @@ fn node(tokens: &mut Tokens<'_>, word: &str) -> Result<Node, Unread>
     } else if word == "late" {
         let (stream, chain) = reason(tokens)?;
         Ok(Node::Leaf(Leaf::Bound(LowerBound::Late(stream, chain))))
-    } else if word == "overrun" {
+    } else {
+        chain_node(tokens, word)
+    }
+}
+
+// The same of the words behind the first two.
+fn chain_node(tokens: &mut Tokens<'_>, word: &str) -> Result<Node, Unread>
+    ensures { Takes tree_node result ((row_of (drop 2 node_rows) word.now).rest tokens.old) tokens.new }
+{
+    if word == "overrun" {
         let (stream, chain) = reason(tokens)?;
         Ok(Node::Leaf(Leaf::Overrun(stream, chain)))
     } else if word == "cycle" {
@@ -204,7 +213,16 @@ fn later_node(tokens: &mut Tokens<'_>, word: &str) -> Result<Node, Unread>
     } else if word == "overload" {
         let (link, entries) = load(tokens)?;
         Ok(Node::Leaf(Leaf::Overload(link, entries)))
-    } else if word == "tie" {
+    } else {
+        last_node(tokens, word)
+    }
+}
+
+// The same of the last two words.
+fn last_node(tokens: &mut Tokens<'_>, word: &str) -> Result<Node, Unread>
+    ensures { Takes tree_node result ((row_of (drop 6 node_rows) word.now).rest tokens.old) tokens.new }
+{
+    if word == "tie" {
         tie(tokens)
     } else if word == "tieload" {
         tie_load(tokens)
