@@ -12,6 +12,7 @@ pub mod Nodes
 pub mod Plain
 pub mod Written
 pub mod Either
+pub mod Whys
 pub mod Numbers
 pub mod Objects
 pub mod PlanLemmas

@@ -113,17 +113,3 @@ steps_up d rest (misfit.NoOffset n) h = absurd h.3
 steps_up d rest (misfit.NoNode n format) h = absurd h.3
 steps_up d rest (misfit.NoStep n) h = (rest.0, rest.1, rest.2, rest.3, h)
 steps_up d rest (misfit.NoPart n it) h = (rest.0, rest.1, rest.2, rest.3, h)
-
--- ---- of values at the keys of an object
-
-pub tree_why : (d f n t : Data) (format : Format) (k : ℕ) → get (codes "format") d ≡ Some f → get (codes "nodes") d ≡ Some n → get (codes "target") d ≡ Some t
-    → is_object_of 3 d ≡ true → named fault.WrongShape (format_of f) ≡ Ok format → named fault.WrongShape (whole_number t) ≡ Ok k
-    → (r : Refused) → IsWhy (IsNodesMisfit format n) r → IsWhy (IsTreeMisfit d) r
-tree_why d f n t format k first second third just of read r h =
-    let rest : TreeRest d format = (
-      ap (λ o. format_of (unwrap_or o null)) first ∙ named_ok fault.WrongShape (format_of f) format of,
-      (rw (first, second, third) refl, just),
-      ap (λ o. is_some (whole_number (unwrap_or o null))) third ∙ ap is_some (named_ok fault.WrongShape (whole_number t) k read),
-    ) in
-    let same : n ≡ at key.Nodes d = sym (ap (λ o. unwrap_or o null) second) in
-    why_up (λ m g. nodes_up d format rest m (subst (λ v. IsNodesMisfit format v m) same g)) r h

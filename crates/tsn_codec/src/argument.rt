@@ -3,11 +3,12 @@ ghost use Rattle.std.specs.Prelude.{◌≡◌, ◌≤◌, true, List, IfOk, IfEr
 ghost use Rattle.json.specs.Token.{Token};
 ghost use Rattle.json.specs.Lex.{tokens};
 ghost use Rattle.serde_json.specs.Data.{depth};
+ghost use Rattle.serde_json.specs.Find.{get};
 ghost use Rattle.serde_json.specs.Read.{max_depth};
 ghost use Rattle.serde_json.specs.View.{view};
 ghost use Rattle.tsn_cert.specs.Fault.{Gives};
-ghost use Rattle.tsn_codec.specs.Matter.{IsArgumentExcess, IsWhy, IsStepsMisfit, IsArgumentMisfit};
-ghost use Rattle.tsn_cert.specs.Told.{Finds};
+ghost use Rattle.tsn_codec.specs.Matter.{IsArgumentExcess, IsWhy, IsObject, IsOfArgument, HasJust, IsStepsMisfit, IsArgumentMisfit, argument_keys};
+ghost use Rattle.tsn_cert.specs.Told.{key_name, Finds};
 ghost use Rattle.tsn_codec.specs.Written.{ArePlain, BeginsArgument, EndsWithTarget, ArgumentStops, IsNoCertificate};
 ghost use Rattle.tsn_cert.specs.Argument.{goal_of, steps_in, steps_form, argument_of, argument_value, argument_fits, argument_in, argument_text};
 ghost use Rattle.tsn_cert.specs.ArgumentLaws.{IsArgumentInGrammar};
@@ -97,23 +98,62 @@ fn argument_from(alloc: Global, value: &Value) -> Result<Argument, Refused>
     if !value.is_object() {
         return Err(Refused::WrongShape(Misfit::NoObject));
     }
+    check_format(value)?;
+    argument_behind(alloc, value)
+}
+
+// Whether an object tells that it is an argument.
+fn check_format(value: &Value) -> Result<(), Refused>
+    requires { IsObject (view value.now) }
+    ensures format { OnOk result (IsOfArgument (view value.now)) }
+    ensures none { IfErr result (λ _. argument_of (view value.now) ≡ None) }
+    ensures told { IfErr result (IsWhy (IsArgumentMisfit (view value.now))) }
+{
     let format = document::member(value, Key::Format)?;
-    if document::whole_number_at(format, Key::Format)? != ARGUMENT_FORMAT {
-        return Err(Refused::WrongShape(Misfit::OtherFormat));
+    if document::whole_number_at(format, Key::Format)? == ARGUMENT_FORMAT {
+        Ok(())
+    } else {
+        Err(Refused::WrongShape(Misfit::OtherFormat))
     }
+}
+
+// The argument that an object is that tells that it is one.
+fn argument_behind(alloc: Global, value: &Value) -> Result<Argument, Refused>
+    requires deep { depth (view value.now) ≤ max_depth }
+    requires format { IsOfArgument (view value.now) }
+    ensures argument { Finds (λ argument. argument) result (argument_of (view value.now)) }
+    ensures told { IfErr result (IsWhy (IsArgumentMisfit (view value.now))) }
+{
+    let (goal, steps, target) = members(value)?;
+    let goal = goal_from(goal)?;
+    let target = document::whole_number_at(target, Key::Target)?;
+    match steps_from(alloc, steps) {
+        Ok(steps) => Ok(Argument {
+            goal,
+            target,
+            steps,
+        }),
+        Err(refused) => Err(refused),
+    }
+}
+
+// The goal, the steps and the target of an object that has the four keys alone.
+fn members(value: &Value) -> Result<(&Value, &Value, &Value), Refused>
+    requires { IsOfArgument (view value.now) }
+    ensures keys { IfOk result (λ _. HasJust argument_keys (view value.now)) }
+    ensures goal { IfOk result (λ m. get (key_name Key.Goal) (view value.now) ≡ Some (view m.0.now)) }
+    ensures steps { IfOk result (λ m. get (key_name Key.Steps) (view value.now) ≡ Some (view m.1.now)) }
+    ensures target { IfOk result (λ m. get (key_name Key.Target) (view value.now) ≡ Some (view m.2.now)) }
+    ensures none { IfErr result (λ _. argument_of (view value.now) ≡ None) }
+    ensures told { IfErr result (IsWhy (IsArgumentMisfit (view value.now))) }
+{
     let goal = document::member(value, Key::Goal)?;
     let steps = document::member(value, Key::Steps)?;
     let target = document::member(value, Key::Target)?;
     if !document::is_object_of(value, 4) {
         return Err(document::unknown_key(value, KEYS));
     }
-    let goal = goal_from(goal)?;
-    let target = document::whole_number_at(target, Key::Target)?;
-    Ok(Argument {
-        goal,
-        target,
-        steps: steps_from(alloc, steps)?,
-    })
+    Ok((goal, steps, target))
 }
 
 // The goal that the value is.

@@ -1,15 +1,16 @@
 //! Certificate files, read and printed.
-ghost use Rattle.std.specs.Prelude.{◌≡◌, ◌≤◌, true, not, position, List, IfOk, IfErr, IfSome, IsTrue, Ok, string_bytes};
+ghost use Rattle.std.specs.Prelude.{◌≡◌, ◌≤◌, true, not, position, List, IfOk, IfErr, IfSome, IsTrue, Some, None, Ok, string_bytes};
 ghost use Rattle.json.specs.Token.{Token};
 ghost use Rattle.json.specs.Lex.{tokens};
 ghost use Rattle.serde_json.specs.Data.{depth};
+ghost use Rattle.serde_json.specs.Find.{get};
 ghost use Rattle.serde_json.specs.Read.{max_depth};
 ghost use Rattle.serde_json.specs.View.{view};
 ghost use Rattle.tsn_cert.specs.Fault.{Gives};
-ghost use Rattle.tsn_codec.specs.Matter.{IsTreeExcess, IsWhy, IsNodesMisfit, IsTreeMisfit, is_of};
+ghost use Rattle.tsn_codec.specs.Matter.{IsTreeExcess, IsWhy, IsObject, IsOfTree, HasJust, IsNodesMisfit, IsTreeMisfit, at, tree_keys, is_of};
 ghost use Rattle.std.specs.List.{position_or_len};
 ghost use Rattle.tsn_cert.specs.Node.{tree_node};
-ghost use Rattle.tsn_cert.specs.Told.{Finds};
+ghost use Rattle.tsn_cert.specs.Told.{key_name, Finds};
 ghost use Rattle.tsn_codec.specs.Written.{ArePlain, BeginsTree, EndsWithTarget, StopsNodes, IsNoCertificate};
 ghost use Rattle.tsn_codec.specs.Places.{nodes_in};
 ghost use Rattle.tsn_cert.specs.Cert.{are_of, format_of, cert_of, cert_fits, cert_in, cert_text};
@@ -94,18 +95,54 @@ fn cert_from(alloc: Global, value: &Value) -> Result<Cert, Refused>
     if !value.is_object() {
         return Err(Refused::WrongShape(Misfit::NoObject));
     }
-    let format = format_from(document::member(value, Key::Format)?)?;
+    let format = format_in(value)?;
+    cert_behind(alloc, value, format)
+}
+
+// The format of an object.
+fn format_in(value: &Value) -> Result<Format, Refused>
+    requires { IsObject (view value.now) }
+    ensures format { IfOk result (λ format. format_of (at Key.Format (view value.now)) ≡ Some format) }
+    ensures none { IfErr result (λ _. cert_of (view value.now) ≡ None) }
+    ensures told { IfErr result (IsWhy (IsTreeMisfit (view value.now))) }
+{
+    format_from(document::member(value, Key::Format)?)
+}
+
+// The certificate that an object of this format is.
+fn cert_behind(alloc: Global, value: &Value, format: Format) -> Result<Cert, Refused>
+    requires deep { depth (view value.now) ≤ max_depth }
+    requires format { format_of (at Key.Format (view value.now)) ≡ Some format }
+    ensures cert { Finds (λ cert. cert) result (cert_of (view value.now)) }
+    ensures told { IfErr result (IsWhy (IsTreeMisfit (view value.now))) }
+{
+    let (nodes, target) = members(value)?;
+    let target = document::whole_number_at(target, Key::Target)?;
+    match nodes_from(alloc, nodes, format) {
+        Ok(nodes) => Ok(Cert {
+            format,
+            target,
+            nodes,
+        }),
+        Err(refused) => Err(refused),
+    }
+}
+
+// The nodes and the target of an object that has the three keys alone.
+fn members(value: &Value) -> Result<(&Value, &Value), Refused>
+    requires { IsOfTree (view value.now) }
+    ensures keys { IfOk result (λ _. HasJust tree_keys (view value.now)) }
+    ensures nodes { IfOk result (λ m. get (key_name Key.Nodes) (view value.now) ≡ Some (view m.0.now)) }
+    ensures target { IfOk result (λ m. get (key_name Key.Target) (view value.now) ≡ Some (view m.1.now)) }
+    ensures none { IfErr result (λ _. cert_of (view value.now) ≡ None) }
+    ensures told { IfErr result (IsWhy (IsTreeMisfit (view value.now))) }
+{
     let nodes = document::member(value, Key::Nodes)?;
     let target = document::member(value, Key::Target)?;
     if !document::is_object_of(value, 3) {
         return Err(document::unknown_key(value, KEYS));
     }
-    let target = document::whole_number_at(target, Key::Target)?;
-    Ok(Cert {
-        format,
-        target,
-        nodes: nodes_from(alloc, nodes, format)?,
-    })
+    Ok((nodes, target))
 }
 
 // The format that the value is.
