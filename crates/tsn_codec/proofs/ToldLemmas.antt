@@ -1,17 +1,20 @@
 -- What is told of a refused file is so.
 use Rattle.std.proofs.Common.{◌≡◌, ℕ, List, Bool, true, false, Option, Some, None, Result, Ok, Err, IfErr, codes, refl, sym, ap, ◌∙◌, subst, inl, inr}
 use Rattle.std.proofs.lemmas.Bool.{eqb-true}
-use Rattle.std.specs.Prelude.{option_and_then, option_map, unwrap_or, ◌==◌}
+use Rattle.std.specs.Prelude.{option_and_then, option_map, unwrap_or, ◌==◌, if◌then◌else◌}
 use Rattle.serde_json.specs.Data.{Data, Members, null}
 use Rattle.serde_json.specs.Find.{as_object, get}
 use Rattle.tsn_cert.specs.Json.{value_of, when, whole_number, is_object_of, member_count}
-use Rattle.tsn_cert.specs.Fault.{named}
+use Rattle.tsn_cert.specs.Fault.{named, shaped, answer, FaultGiven}
+use Rattle.tsn_cert.specs.Told.{code_of, Tells}
+use Rattle.tsn_cert.specs.declared.fault.FileFault.{FileFault}
 use Rattle.tsn_cert.specs.declared.fault.FileFault.TheVariants as fault
-use Rattle.tsn_cert.specs.Cert.{cert_of}
-use Rattle.tsn_cert.specs.Argument.{argument_of, argument_of_values, argument_format, steps_in, goal_of}
-use Rattle.tsn_cert.specs.Certificate.{certificate_of, tree_or}
+use Rattle.tsn_cert.specs.Cert.{cert_of, cert_fits}
+use Rattle.tsn_cert.specs.Argument.{argument_of, argument_of_values, argument_format, argument_fits, steps_in, goal_of}
+use Rattle.tsn_cert.specs.Certificate.{certificate_of, certificate_fits, certificate_in, tree_or}
 use Rattle.tsn_cert.specs.declared.cert.Cert.{Cert}
 use Rattle.tsn_cert.specs.declared.argument.Argument.{Argument}
+use Rattle.tsn_cert.specs.declared.certificate.Certificate.{Certificate}
 use Rattle.tsn_cert.specs.declared.certificate.Certificate.TheVariants as kind
 use Rattle.tsn_cert.specs.declared.refused.Excess.{Excess}
 use Rattle.tsn_cert.specs.declared.refused.Misfit.{Misfit}
@@ -55,15 +58,65 @@ tree_said d cert h = ap (λ o. tree_or o (argument_of d)) h
 pub argument_is_said : (d : Data) (a : Argument) → argument_of d ≡ Some a → certificate_of d ≡ Some (kind.Argument a)
 argument_is_said d a h = ap (λ o. tree_or o (argument_of d)) (argument_alone d a h) ∙ ap (option_map kind.Argument) h
 
-pub tree_limited : (bytes : List ℕ) (cert : Cert) (r : Refused) → option_and_then cert_of (value_of bytes) ≡ Some cert
-    → (e : Excess) × (r ≡ NumberTooLarge e) × IsTreeExcess cert e → IsToldOfCertificate bytes r
-tree_limited bytes cert r said h =
+-- one of either kind, where its numbers are within their limits
+within_if : {A B : Type 0} (f : A → B) (fits : Bool) (x y : A) → (if fits then Ok x else Err fault.NumberTooLarge) ≡ Ok y
+    → (if fits then Ok (f x) else Err fault.NumberTooLarge) ≡ Ok (f y)
+within_if f true x y e = let same : x ≡ y = cc in ap (λ x. Ok (f x)) same
+within_if f false x y e = absurd (cc)
+
+above_if : {A B : Type 0} (f : A → B) (fits : Bool) (x : A) (e : FileFault) → FaultGiven e (if fits then Ok x else Err fault.NumberTooLarge)
+    → FaultGiven e (if fits then Ok (f x) else Err fault.NumberTooLarge)
+above_if f fits x fault.Memory h = tt
+above_if f true x fault.NotJson h = absurd (cc)
+above_if f true x fault.WrongShape h = absurd (cc)
+above_if f true x fault.NumberTooLarge h = absurd (cc)
+above_if f false x fault.NotJson h = absurd (cc)
+above_if f false x fault.WrongShape h = absurd (cc)
+above_if f false x fault.NumberTooLarge h = refl
+
+pub tree_fits : (cert found : Cert) → shaped cert_fits (Some cert) ≡ Ok found → shaped certificate_fits (Some (kind.Tree cert)) ≡ Ok (kind.Tree found)
+tree_fits cert found e = within_if kind.Tree (cert_fits cert) cert found e
+
+pub tree_large : (cert : Cert) (r : Refused) → FaultGiven (code_of r) (shaped cert_fits (Some cert))
+    → FaultGiven (code_of r) (shaped certificate_fits (Some (kind.Tree cert)))
+tree_large cert r h = above_if kind.Tree (cert_fits cert) cert (code_of r) h
+
+pub argument_within : (a found : Argument) → shaped argument_fits (Some a) ≡ Ok found
+    → shaped certificate_fits (Some (kind.Argument a)) ≡ Ok (kind.Argument found)
+argument_within a found e = within_if kind.Argument (argument_fits a) a found e
+
+pub argument_large : (a : Argument) (r : Refused) → FaultGiven (code_of r) (shaped argument_fits (Some a))
+    → FaultGiven (code_of r) (shaped certificate_fits (Some (kind.Argument a)))
+argument_large a r h = above_if kind.Argument (argument_fits a) a (code_of r) h
+
+-- what a file of one says
+pub tree_answered : (bytes : List ℕ) (cert : Cert) (r : Result Certificate Refused) → option_and_then cert_of (value_of bytes) ≡ Some cert
+    → Tells (λ c. c) r (shaped certificate_fits (Some (kind.Tree cert))) → Tells (λ c. c) r (certificate_in bytes)
+tree_answered bytes cert r said h =
+    let p = followed cert_of (value_of bytes) cert said in
+    let is : certificate_in bytes ≡ shaped certificate_fits (Some (kind.Tree cert)) =
+    ap (answer certificate_of certificate_fits) p.1 ∙ ap (shaped certificate_fits) (tree_said p.0 cert p.2) in
+    subst (Tells (λ c. c) r) (sym is) h
+
+pub argument_answered : (bytes : List ℕ) (a : Argument) (r : Result Certificate Refused) → option_and_then argument_of (value_of bytes) ≡ Some a
+    → Tells (λ c. c) r (shaped certificate_fits (Some (kind.Argument a))) → Tells (λ c. c) r (certificate_in bytes)
+argument_answered bytes a r said h =
+    let p = followed argument_of (value_of bytes) a said in
+    let is : certificate_in bytes ≡ shaped certificate_fits (Some (kind.Argument a)) =
+    ap (answer certificate_of certificate_fits) p.1 ∙ ap (shaped certificate_fits) (argument_is_said p.0 a p.2) in
+    subst (Tells (λ c. c) r) (sym is) h
+
+pub tree_limited : (bytes : List ℕ) (cert : Cert) (r : Result Certificate Refused) → option_and_then cert_of (value_of bytes) ≡ Some cert
+    → IfErr r (λ refused. (e : Excess) × (refused ≡ NumberTooLarge e) × IsTreeExcess cert e) → IfErr r (IsToldOfCertificate bytes)
+tree_limited bytes cert (Ok c) said h = h
+tree_limited bytes cert (Err r) said h =
     let p = followed cert_of (value_of bytes) cert said in
     subst (IsToldOfCertificate bytes) (sym h.1) (p.0, kind.Tree cert, p.1, tree_said p.0 cert p.2, h.2)
 
-pub argument_limited : (bytes : List ℕ) (a : Argument) (r : Refused) → option_and_then argument_of (value_of bytes) ≡ Some a
-    → (e : Excess) × (r ≡ NumberTooLarge e) × IsArgumentExcess a e → IsToldOfCertificate bytes r
-argument_limited bytes a r said h =
+pub argument_limited : (bytes : List ℕ) (a : Argument) (r : Result Certificate Refused) → option_and_then argument_of (value_of bytes) ≡ Some a
+    → IfErr r (λ refused. (e : Excess) × (refused ≡ NumberTooLarge e) × IsArgumentExcess a e) → IfErr r (IsToldOfCertificate bytes)
+argument_limited bytes a (Ok c) said h = h
+argument_limited bytes a (Err r) said h =
     let p = followed argument_of (value_of bytes) a said in
     subst (IsToldOfCertificate bytes) (sym h.1) (p.0, kind.Argument a, p.1, argument_is_said p.0 a p.2, h.2)
 

@@ -1,12 +1,15 @@
 //! Certificate files, read and printed.
-ghost use Rattle.std.specs.Prelude.{◌≡◌, ◌≤◌, true, IfOk, IfErr, IfSome, IsTrue, Ok, Err, string_bytes};
+ghost use Rattle.std.specs.Prelude.{◌≡◌, ◌≤◌, ℕ, true, List, IfOk, IfErr, IfSome, IsTrue, Some, Ok, Err, string_bytes};
 ghost use Rattle.json.specs.Lex.{tokens};
 ghost use Rattle.serde_json.specs.Data.{depth};
 ghost use Rattle.serde_json.specs.Read.{max_depth};
 ghost use Rattle.serde_json.specs.View.{view};
 ghost use Rattle.tsn_cert.specs.Argument.{argument_of};
-ghost use Rattle.tsn_cert.specs.Fault.{Gives};
-ghost use Rattle.tsn_codec.specs.Matter.{IsWhy, IsOfArgument, IsTreeMisfit, IsMisfit, IsToldOfCertificate};
+ghost use Rattle.tsn_cert.specs.Json.{value_of};
+ghost use Rattle.tsn_cert.specs.Fault.{Gives, named, shaped};
+ghost use Rattle.tsn_cert.specs.Cert.{cert_of};
+ghost use Rattle.tsn_cert.specs.declared.refused.Excess.{Excess};
+ghost use Rattle.tsn_codec.specs.Matter.{IsWhy, IsOfArgument, IsTreeExcess, IsArgumentExcess, IsTreeMisfit, IsMisfit, IsToldOfCertificate};
 ghost use Rattle.std.specs.Bool.{MatchBool};
 ghost use Rattle.tsn_cert.specs.Told.{Tells, Finds};
 ghost use Rattle.tsn_codec.specs.Written.{ArePlain};
@@ -45,13 +48,13 @@ pub fn certificate_or_refuse(alloc: Global, bytes: &[u8]) -> Result<Certificate,
     // A file in written form is read once, whatever its kind.
     if bytes.starts_with(ARGUMENT_BEGIN) {
         match file::from_written::<Argument>(alloc, bytes) {
-            Ok(argument) => Ok(Certificate::Argument(file::limited(argument)?)),
+            Ok(argument) => argument_within(argument),
             Err(Unread::OtherForm) => from_other(alloc, bytes),
             Err(Unread::Memory) => Err(Refused::Memory),
         }
     } else {
         match file::from_written::<Cert>(alloc, bytes) {
-            Ok(cert) => Ok(Certificate::Tree(file::limited(cert)?)),
+            Ok(cert) => tree_within(cert),
             Err(Unread::OtherForm) => from_other(alloc, bytes),
             Err(Unread::Memory) => Err(Refused::Memory),
         }
@@ -96,20 +99,66 @@ fn has_plain_numbers(alloc: Global, text: &str) -> Result<bool, NoMemory>
     Ok(tokens.have_plain_numbers())
 }
 
-// The same, of a file whose keys stand in any order: a tree, or else an argument.
+// The tree, where each of its numbers is within its limit.
+fn tree_within(cert: Cert) -> Result<Certificate, Refused>
+    ensures limits { Tells (λ certificate. certificate) result (shaped certificate_fits (Some (Certificate.Tree cert))) }
+    ensures told { IfErr result (λ refused. (e : Excess) × (refused ≡ Refused.NumberTooLarge e) × IsTreeExcess cert e) }
+{
+    match file::limited(cert) {
+        Ok(cert) => Ok(Certificate::Tree(cert)),
+        Err(refused) => Err(refused),
+    }
+}
+
+// The argument, where each of its numbers is within its limit.
+fn argument_within(argument: Argument) -> Result<Certificate, Refused>
+    ensures limits { Tells (λ certificate. certificate) result (shaped certificate_fits (Some (Certificate.Argument argument))) }
+    ensures told { IfErr result (λ refused. (e : Excess) × (refused ≡ Refused.NumberTooLarge e) × IsArgumentExcess argument e) }
+{
+    match file::limited(argument) {
+        Ok(argument) => Ok(Certificate::Argument(argument)),
+        Err(refused) => Err(refused),
+    }
+}
+
+// The same, of a file whose keys stand in any order.
 fn from_any(alloc: Global, bytes: &[u8]) -> Result<Certificate, Refused>
     ensures certificate { Tells (λ certificate. certificate) result (certificate_in bytes.now) }
     ensures told { IfErr result (IsToldOfCertificate bytes.now) }
 {
     let value = document::value_from(alloc, bytes)?;
-    match Cert::in_value(alloc, &value) {
-        Ok(cert) => Ok(Certificate::Tree(file::limited(cert)?)),
-        Err(Refused::WrongShape(misfit)) => {
-            let argument = argument_or(alloc, &value, misfit)?;
-            Ok(Certificate::Argument(file::limited(argument)?))
-        }
+    let read = from_value(alloc, &value);
+    drop(value);
+    read
+}
+
+// The same, of a file of this value: a tree, or else an argument.
+fn from_value(alloc: Global, value: &Value) -> Result<Certificate, Refused>
+    requires { depth (view value.now) ≤ max_depth }
+    ensures certificate { (bytes : List ℕ) → named FileFault.NotJson (value_of bytes) ≡ Ok (view value.now)
+        → Tells (λ certificate. certificate) result (certificate_in bytes) }
+    ensures told { (bytes : List ℕ) → named FileFault.NotJson (value_of bytes) ≡ Ok (view value.now) → IfErr result (IsToldOfCertificate bytes) }
+{
+    match Cert::in_value(alloc, value) {
+        Ok(cert) => tree_within(cert),
+        Err(Refused::WrongShape(misfit)) => from_other_value(alloc, value, misfit),
         Err(Refused::Memory) => Err(Refused::Memory),
         Err(_) => unreachable!(),
+    }
+}
+
+// The same, where the value is no tree for this reason.
+fn from_other_value(alloc: Global, value: &Value, misfit: Misfit) -> Result<Certificate, Refused>
+    requires deep { depth (view value.now) ≤ max_depth }
+    requires none { named FileFault.WrongShape (cert_of (view value.now)) ≡ Err FileFault.WrongShape }
+    requires told { IsTreeMisfit (view value.now) misfit }
+    ensures certificate { (bytes : List ℕ) → named FileFault.NotJson (value_of bytes) ≡ Ok (view value.now)
+        → Tells (λ certificate. certificate) result (certificate_in bytes) }
+    ensures told { (bytes : List ℕ) → named FileFault.NotJson (value_of bytes) ≡ Ok (view value.now) → IfErr result (IsToldOfCertificate bytes) }
+{
+    match argument_or(alloc, value, misfit) {
+        Ok(argument) => argument_within(argument),
+        Err(refused) => Err(refused),
     }
 }
 
