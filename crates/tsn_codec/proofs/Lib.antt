@@ -13,6 +13,7 @@ pub mod Plain
 pub mod Written
 pub mod Either
 pub mod Whys
+pub mod Files
 pub mod Numbers
 pub mod Objects
 pub mod PlanLemmas

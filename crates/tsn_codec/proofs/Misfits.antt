@@ -1,15 +1,12 @@
 -- Why a value isn't of the form.
-use Rattle.std.proofs.Common.{◌≡◌, ℕ, List, [], ◌∷◌, map, Bool, true, false, Option, Some, None, Ok, codes, refl, sym, ap, ◌∙◌, subst, String, Global, string_bytes, BTreeMap}
+use Rattle.std.proofs.Common.{◌≡◌, List, [], ◌∷◌, map, Bool, true, false, Option, Some, None, refl, sym, ap, ◌∙◌, String, Global, string_bytes, BTreeMap}
 use Rattle.std.specs.Prelude.{is_some, cond, find, option_map, unwrap_or}
 use Rattle.std.specs.BTreeMap.{keys}
-use Rattle.serde_json.specs.Data.{Data, null}
-use Rattle.serde_json.specs.Find.{get, as_object}
+use Rattle.serde_json.specs.Data.{Data}
+use Rattle.serde_json.specs.Find.{as_object}
 use Rattle.serde_json.specs.View.{members_view}
 use Rattle.serde_json.specs.declared.value.Value.{Value}
-use Rattle.tsn_cert.specs.Json.{whole_number, is_null, is_object_of}
-use Rattle.tsn_cert.specs.Fault.{named}
-use Rattle.tsn_cert.specs.declared.fault.FileFault.TheVariants as fault
-use Rattle.tsn_codec.proofs.JsonLemmas.{named_ok}
+use Rattle.tsn_cert.specs.Json.{whole_number, is_null}
 use Rattle.tsn_cert.specs.declared.refused.Key.TheVariants as key
 use Rattle.tsn_cert.specs.declared.refused.Misfit.{Misfit}
 use Rattle.tsn_cert.specs.declared.refused.Misfit.TheVariants as misfit

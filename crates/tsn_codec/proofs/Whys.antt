@@ -1,6 +1,6 @@
 -- What is read, and told, of the values at the keys of an object.
-use Rattle.std.proofs.Common.{◌≡◌, ◌≢◌, ℕ, List, [], ◌∷◌, Bool, true, false, Option, Some, None, Ok, Err, codes, refl, sym, ap, ◌∙◌, subst, string_bytes, String, Global}
-use Rattle.std.specs.Prelude.{option_and_then, is_some, is_none, cond, unwrap_or, ◌==◌}
+use Rattle.std.proofs.Common.{◌≡◌, ◌≢◌, ℕ, List, Bool, true, false, Option, Some, None, Ok, Err, codes, refl, sym, ap, ◌∙◌, subst, string_bytes, String, Global}
+use Rattle.std.specs.Prelude.{option_and_then, is_some, is_none, unwrap_or, ◌==◌}
 use Rattle.serde_json.specs.Data.{Data, null, boolean, number, string, array, object}
 use Rattle.serde_json.specs.Find.{get, as_object}
 use Rattle.tsn_model.specs.Certificate.{Node}
@@ -11,8 +11,7 @@ use Rattle.tsn_cert.specs.declared.fault.FileFault.TheVariants as fault
 use Rattle.tsn_cert.specs.Cert.{format_of, nodes_of, are_of, cert_of}
 use Rattle.tsn_cert.specs.declared.cert.Cert.{Cert}
 use Rattle.tsn_cert.specs.declared.cert.Format.{Format}
-use Rattle.tsn_cert.specs.Argument.{goal_of, steps_in, argument_of, argument_of_values, argument_format}
-use Rattle.tsn_cert.specs.declared.argument.Argument.{Argument}
+use Rattle.tsn_cert.specs.Argument.{goal_of, steps_in, argument_of, argument_format}
 use Rattle.tsn_cert.specs.declared.argument.Goal.{Goal}
 use Rattle.tsn_cert.specs.declared.step.Step.{Step}
 use Rattle.tsn_cert.specs.declared.refused.Key.{Key}

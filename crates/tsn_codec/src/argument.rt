@@ -1,16 +1,18 @@
 //! Argument files, read and printed.
-ghost use Rattle.std.specs.Prelude.{◌≡◌, ◌≤◌, true, List, IfOk, IfErr, IfSome, IsTrue, OnOk, None, Some, Ok, string_bytes};
-ghost use Rattle.json.specs.Token.{Token};
+ghost use Rattle.std.specs.Prelude.{◌≡◌, ◌≤◌, ◌∷◌, true, List, IfOk, IfErr, IfSome, IsTrue, OnOk, None, Some, Ok, codes, string_bytes};
+ghost use Rattle.json.specs.Token.{Token, begin_object};
+ghost use Rattle.json.specs.Json.{read_key};
 ghost use Rattle.json.specs.Lex.{tokens};
 ghost use Rattle.serde_json.specs.Data.{depth};
 ghost use Rattle.serde_json.specs.Find.{get};
 ghost use Rattle.serde_json.specs.Read.{max_depth};
 ghost use Rattle.serde_json.specs.View.{view};
+ghost use Rattle.tsn_cert.specs.Form.{number};
 ghost use Rattle.tsn_cert.specs.Fault.{Gives};
 ghost use Rattle.tsn_codec.specs.Matter.{IsArgumentExcess, IsWhy, IsObject, IsOfArgument, HasJust, IsStepsMisfit, IsArgumentMisfit, argument_keys};
 ghost use Rattle.tsn_cert.specs.Told.{key_name, Finds};
-ghost use Rattle.tsn_codec.specs.Written.{ArePlain, BeginsArgument, EndsWithTarget, ArgumentStops, IsNoCertificate};
-ghost use Rattle.tsn_cert.specs.Argument.{goal_of, steps_in, steps_form, argument_of, argument_value, argument_fits, argument_in, argument_text};
+ghost use Rattle.tsn_codec.specs.Written.{ArePlain, HasAs, BeginsArgument, EndsWithTarget, ArgumentStops, IsNoCertificate};
+ghost use Rattle.tsn_cert.specs.Argument.{goal_form, argument_format, goal_of, steps_in, steps_form, argument_of, argument_value, argument_fits, argument_in, argument_text};
 ghost use Rattle.tsn_cert.specs.ArgumentLaws.{IsArgumentInGrammar};
 
 mod goal;
@@ -60,24 +62,19 @@ impl File for Argument {
     ghost misfits = { IsArgumentMisfit };
 
     fn take(tokens: &mut Tokens<'_>) -> Result<Argument, Unread> {
-        tokens.open_object()?;
-        tokens.key("format")?;
-        let format = tokens.number()?;
-        if format != ARGUMENT_FORMAT {
-            return Err(Unread::OtherForm);
-        }
-        tokens.key("goal")?;
-        let goal = goal::goal(tokens)?;
-        tokens.key("steps")?;
+        let goal = begin(tokens)?;
         let steps = step::steps(tokens)?;
-        tokens.key("target")?;
-        let target = tokens.number()?;
-        tokens.close_object()?;
-        Ok(Argument {
-            goal,
-            target,
-            steps,
-        })
+        match file::target_and_end(tokens) {
+            Ok(target) => Ok(Argument {
+                goal,
+                target,
+                steps,
+            }),
+            Err(error) => {
+                drop(steps);
+                Err(error)
+            }
+        }
     }
 
     fn in_value(alloc: Global, value: &Value) -> Result<Argument, Refused> {
@@ -198,10 +195,22 @@ fn misfit_of_steps(alloc: Global, text: &str) -> Result<Option<Misfit>, NoMemory
 {
     let mut scratch = Scratch::new(alloc);
     let mut tokens = Tokens::of(alloc, text, &mut scratch)?;
-    let Ok(()) = begin(&mut tokens) else {
-        return Ok(None);
-    };
-    match step::steps_or_why(&mut tokens) {
+    misfit_in(&mut tokens)
+}
+
+fn misfit_in(tokens: &mut Tokens<'_>) -> Result<Option<Misfit>, NoMemory>
+    ensures { IfOk result (λ misfit. IfSome misfit (ArgumentStops tokens.old)) }
+{
+    match begin(tokens) {
+        Ok(_) => misfit_behind(tokens),
+        Err(_) => Ok(None),
+    }
+}
+
+fn misfit_behind(tokens: &mut Tokens<'_>) -> Result<Option<Misfit>, NoMemory>
+    ensures { (ts : List Token) → BeginsArgument ts tokens.old → IfOk result (λ misfit. IfSome misfit (ArgumentStops ts)) }
+{
+    match step::steps_or_why(tokens) {
         Err(Refused::WrongShape(misfit)) => Ok(Some(misfit)),
         Err(Refused::Memory) => Err(NoMemory),
         _ => Ok(None),
@@ -213,25 +222,42 @@ fn ends_with_target(alloc: Global, text: &str) -> Result<bool, NoMemory>
 {
     let mut scratch = Scratch::new(alloc);
     let mut tokens = Tokens::of(alloc, text, &mut scratch)?;
-    match begin(&mut tokens) {
-        Ok(()) => Ok(file::is_list_and_target(&mut tokens)),
-        Err(_) => Ok(false),
+    Ok(end_with_target(&mut tokens))
+}
+
+fn end_with_target(tokens: &mut Tokens<'_>) -> bool
+    ensures { result ≡ true → (ts : List Token) × BeginsArgument tokens.old ts × EndsWithTarget ts }
+{
+    match begin(tokens) {
+        Ok(_) => file::is_list_and_target(tokens),
+        Err(_) => false,
     }
 }
 
-// Passes what stands before the steps.
-fn begin(tokens: &mut Tokens<'_>) -> Result<(), Unread>
-    ensures { OnOk result (BeginsArgument tokens.old tokens.new) }
+// Takes what stands before the steps.
+fn begin(tokens: &mut Tokens<'_>) -> Result<Goal, Unread>
+    ensures { IfOk result (λ goal. (inner next last : List Token) × (tokens.old ≡ begin_object ∷ inner)
+        × HasAs (codes "format") number argument_format inner next × HasAs (codes "goal") goal_form goal next last
+        × (read_key last ≡ Some (Some (codes "steps"), tokens.new))) }
+{
+    pass_format(tokens)?;
+    tokens.key("goal")?;
+    let goal = goal::goal(tokens)?;
+    tokens.key("steps")?;
+    Ok(goal)
+}
+
+// Passes what stands before the goal.
+fn pass_format(tokens: &mut Tokens<'_>) -> Result<(), Unread>
+    ensures { OnOk result ((inner : List Token) × (tokens.old ≡ begin_object ∷ inner) × HasAs (codes "format") number argument_format inner tokens.new) }
 {
     tokens.open_object()?;
     tokens.key("format")?;
-    let format = tokens.number()?;
-    if format != ARGUMENT_FORMAT {
-        return Err(Unread::OtherForm);
+    if tokens.number()? == ARGUMENT_FORMAT {
+        Ok(())
+    } else {
+        Err(Unread::OtherForm)
     }
-    tokens.key("goal")?;
-    goal::goal(tokens)?;
-    tokens.key("steps")
 }
 
 /// The text of an argument file.

@@ -59,22 +59,15 @@ impl File for Cert {
     ghost misfits = { IsTreeMisfit };
 
     fn take(tokens: &mut Tokens<'_>) -> Result<Cert, Unread> {
-        tokens.open_object()?;
-        tokens.key("format")?;
-        let format = read::format(tokens)?;
-        tokens.key("nodes")?;
+        let format = begin(tokens)?;
         let nodes = read::nodes(tokens)?;
-        tokens.key("target")?;
-        let target = tokens.number()?;
-        tokens.close_object()?;
-        if !format.has(nodes.list()) {
-            return Err(Unread::OtherForm);
+        match file::target_and_end(tokens) {
+            Ok(target) => of_format(format, target, nodes),
+            Err(error) => {
+                drop(nodes);
+                Err(error)
+            }
         }
-        Ok(Cert {
-            format,
-            target,
-            nodes,
-        })
     }
 
     fn in_value(alloc: Global, value: &Value) -> Result<Cert, Refused> {
@@ -83,6 +76,22 @@ impl File for Cert {
 
     fn excess(&self) -> Option<Excess> {
         limits::excess(self)
+    }
+}
+
+// The certificate of these parts, where the nodes are of the format.
+fn of_format(format: Format, target: u64, nodes: Nodes) -> Result<Cert, Unread>
+    ensures { IfOk result (λ cert. (cert ≡ record { format = format; target = target; nodes = nodes }) × (are_of format nodes ≡ true)) }
+{
+    if format.has(nodes.list()) {
+        Ok(Cert {
+            format,
+            target,
+            nodes,
+        })
+    } else {
+        drop(nodes);
+        Err(Unread::OtherForm)
     }
 }
 
@@ -221,10 +230,22 @@ fn misfit_of_nodes(alloc: Global, text: &str) -> Result<Option<Misfit>, NoMemory
 {
     let mut scratch = Scratch::new(alloc);
     let mut tokens = Tokens::of(alloc, text, &mut scratch)?;
-    let Ok(format) = begin(&mut tokens) else {
-        return Ok(None);
-    };
-    match list_or_why::<Node>(&mut tokens) {
+    misfit_in(&mut tokens)
+}
+
+fn misfit_in(tokens: &mut Tokens<'_>) -> Result<Option<Misfit>, NoMemory>
+    ensures { IfOk result (λ misfit. IfSome misfit (StopsNodes tokens.old)) }
+{
+    match begin(tokens) {
+        Ok(format) => misfit_behind(tokens, format),
+        Err(_) => Ok(None),
+    }
+}
+
+fn misfit_behind(tokens: &mut Tokens<'_>, format: Format) -> Result<Option<Misfit>, NoMemory>
+    ensures { (ts : List Token) → BeginsTree format ts tokens.old → IfOk result (λ misfit. IfSome misfit (StopsNodes ts)) }
+{
+    match list_or_why::<Node>(tokens) {
         Err(Unlisted::Behind(nodes)) => Ok(Some(no_node(&nodes, format))),
         Err(Unlisted::Memory) => Err(NoMemory),
         _ => Ok(None),
@@ -236,9 +257,15 @@ fn ends_with_target(alloc: Global, text: &str) -> Result<bool, NoMemory>
 {
     let mut scratch = Scratch::new(alloc);
     let mut tokens = Tokens::of(alloc, text, &mut scratch)?;
-    match begin(&mut tokens) {
-        Ok(_) => Ok(file::is_list_and_target(&mut tokens)),
-        Err(_) => Ok(false),
+    Ok(end_with_target(&mut tokens))
+}
+
+fn end_with_target(tokens: &mut Tokens<'_>) -> bool
+    ensures { result ≡ true → (format : Format) × (ts : List Token) × BeginsTree format tokens.old ts × EndsWithTarget ts }
+{
+    match begin(tokens) {
+        Ok(_) => file::is_list_and_target(tokens),
+        Err(_) => false,
     }
 }
 

@@ -1,16 +1,19 @@
 //! Whole files: read from tokens where their keys stand in the order in which they are written, and else by their value.
-ghost use Rattle.std.specs.Prelude.{◌≡◌, ◌≤◌, Bool, Option, Some, IfOk, IfErr, OnOk, true, option_and_then};
+ghost use Rattle.std.specs.Prelude.{◌≡◌, ◌≤◌, Bool, List, Option, Some, None, IfOk, IfErr, OnOk, true, codes, option_and_then};
+ghost use Rattle.json.specs.Token.{Token};
+ghost use Rattle.json.specs.Json.{read_key};
 ghost use Rattle.serde_json.specs.Data.{Data, depth};
 ghost use Rattle.serde_json.specs.Read.{read, max_depth};
 ghost use Rattle.serde_json.specs.View.{view};
 ghost use Rattle.tsn_cert.specs.Json.{value_of};
+ghost use Rattle.tsn_cert.specs.Form.{number};
 ghost use Rattle.tsn_cert.specs.Spelled.{Spells};
 ghost use Rattle.tsn_cert.specs.Fault.{shaped, answer};
 ghost use Rattle.tsn_cert.specs.Told.{Tells, Finds};
 ghost use Rattle.tsn_codec.specs.Matter.{FindsExcess, IsWhy};
 ghost use Rattle.tsn_cert.specs.declared.refused.Misfit.{Misfit};
 ghost use Rattle.tsn_cert.specs.declared.refused.Excess.{Excess};
-ghost use Rattle.tsn_codec.specs.Written.{PassesTarget, EndsWithTarget};
+ghost use Rattle.tsn_codec.specs.Written.{HasAs, PassesTarget, EndsWithTarget};
 
 use crate::document;
 use crate::tokens::{Tokens, Unread};
@@ -115,7 +118,18 @@ fn pass_list_and_target(tokens: &mut Tokens<'_>) -> Result<(), Unread>
     ensures { OnOk result (PassesTarget tokens.old tokens.new) }
 {
     tokens.skip_value(126)?;
+    match target_and_end(tokens) {
+        Ok(_) => Ok(()),
+        Err(error) => Err(error),
+    }
+}
+
+/// Takes a target, and the end of the object.
+pub fn target_and_end(tokens: &mut Tokens<'_>) -> Result<u64, Unread>
+    ensures { IfOk result (λ target. (end : List Token) × HasAs (codes "target") number target tokens.old end × (read_key end ≡ Some (None, tokens.new))) }
+{
     tokens.key("target")?;
-    tokens.number()?;
-    tokens.close_object()
+    let target = tokens.number()?;
+    tokens.close_object()?;
+    Ok(target)
 }

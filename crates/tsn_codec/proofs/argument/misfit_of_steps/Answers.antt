@@ -1,8 +1,7 @@
-use Rattle.std.proofs.Common.{subst}
-use Rattle.tsn_codec.specs.Written.{BeginsArgument}
+use Rattle.std.proofs.Common.{IfOk, subst}
+use Rattle.std.specs.Prelude.{IfSome}
+use Rattle.tsn_codec.specs.Written.{ArgumentStops}
 use Rattle.tsn_codec.proofs.argument.misfit_of_steps.Goals as goal
 
-pub returns-in-Err-WrongShape : goal.returns-in-Err-WrongShape
-returns-in-Err-WrongShape c =
-    let stops = rw c.in-Err-WrongShape.field-0-is at c.in-Err-WrongShape.ensures in
-    (c.begin.new.tokens, subst (λ ts. BeginsArgument ts c.begin.new.tokens) c.in_ok-tokens.ensures c.in-Ok.ensures, stops)
+pub returns : goal.returns
+returns c = subst (λ ts. IfOk c.misfit_in.result (λ misfit. IfSome misfit (ArgumentStops ts))) c.in_ok-tokens.ensures c.misfit_in.ensures

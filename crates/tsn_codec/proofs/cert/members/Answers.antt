@@ -1,8 +1,6 @@
 use Rattle.std.proofs.Common.{◌≡◌, true, false, codes, sym, ◌∙◌, arith}
 use Rattle.std.proofs.lemmas.Result.{err_from_is_err_and}
 use Rattle.serde_json.specs.View.{view}
-use Rattle.tsn_cert.specs.Json.{is_object_of}
-use Rattle.tsn_codec.specs.Matter.{HasJust, tree_keys}
 use Rattle.tsn_codec.proofs.Counted.{tree_apart}
 use Rattle.tsn_codec.proofs.Whys.{has_members, tree_no_nodes, tree_nodes_told, tree_no_target, tree_target_told, tree_all, tree_other_count, tree_unknown}
 use Rattle.tsn_codec.proofs.cert.members.Goals as goal
