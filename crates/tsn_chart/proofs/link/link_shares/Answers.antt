@@ -18,3 +18,6 @@ pub link_share-requires-clause-used : goal.link_share-requires-clause-used
 link_share-requires-clause-used c =
     subst (λ (list : LinkGates). IsUsed c.args.timing.now list.link) (sym c.list-item.is)
     (c.requires.used c.loop-list.list-index c.list-item.result c.loop-list-test.true)
+
+pub link_share-requires-clause-valid : goal.link_share-requires-clause-valid
+link_share-requires-clause-valid c = c.requires.valid

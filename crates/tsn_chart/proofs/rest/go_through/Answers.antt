@@ -1,4 +1,5 @@
-use Rattle.std.proofs.Common.{◌∙◌, get_or, sym, ap, arith}
+use Rattle.std.proofs.Common.{◌∙◌, fold, get_or, sym, ap, arith}
+use Rattle.std.proofs.lemmas.List.{take_all}
 use Rattle.std.proofs.lemmas.List.Sums.{fold_more}
 use Rattle.tsn_model.specs.declared.GateEntry.{GateEntry}
 use Rattle.tsn_chart.specs.declared.rest.Run.{Run}
@@ -29,3 +30,7 @@ loop-entry-preserved c =
       so_far = c.go_on-run.ensures ∙ (ap (λ r. go_on r (get_or entries i none)) c.loop-entry.invariant.so_far ∙ sym (fold_more go_on c.args.begun entries i none c.loop-entry-test.true));
       bound = omega (arith, go_on-le c.loop-entry.run (get_or entries i none));
     }
+
+pub returns : goal.returns
+returns c =
+    c.loop-entry.invariant.so_far ∙ ap (λ entries. fold go_on c.args.begun entries) (take_all c.loop-entry.entry-index c.args.entries.now c.loop-entry-test.false)

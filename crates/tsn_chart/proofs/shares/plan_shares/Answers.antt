@@ -16,3 +16,9 @@ returns-clause-slack c =
     all_tolerate c.args.problem.now.network (subst IsWellFormed c.deref.ensures c.cycle-limits.ensures.well_formed) c.args.valid.now
     c.in_ok-links.links.items c.in_ok-links.ensures.value least
     (subst (λ xs. (n : ℕ) → All (λ (share : LinkShare). n ≤ share.slack) xs ↔ (n ≤ least)) c.deref-2.ensures.value c.least_slack-slack.ensures)
+
+pub of_streams-requires : goal.of_streams-requires
+of_streams-requires c = c.requires
+
+pub of_links-requires : goal.of_links-requires
+of_links-requires c = c.requires
