@@ -33,4 +33,5 @@ loop-entry-preserved c =
 
 pub returns : goal.returns
 returns c =
-    c.loop-entry.invariant.so_far ∙ ap (λ entries. fold go_on c.args.begun entries) (take_all c.loop-entry.entry-index c.args.entries.now c.loop-entry-test.false)
+    c.loop-entry.invariant.so_far
+    ∙ ap (λ entries. fold go_on c.args.begun entries) (take_all c.loop-entry.entry-index c.args.entries.now c.loop-entry-test.false)

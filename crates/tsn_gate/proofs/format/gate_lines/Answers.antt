@@ -1,4 +1,6 @@
 use Rattle.std.proofs.Common.{ap, ◌∙◌}
+use Rattle.std.specs.List.{flat_map}
+use Rattle.std.proofs.lemmas.List.{take_all}
 use Rattle.tsn_gate.specs.Json.{json_text}
 use Rattle.tsn_model.proofs.More.{written_more}
 use Rattle.tsn_gate.proofs.format.gate_lines.Goals as goal
@@ -8,3 +10,8 @@ loop-list-preserved c =
     written_more (json_text c.args.problem.now) c.args.lists.now c.loop-list.list-index _ _ _ _ c.loop-list-test.true c.loop-list.invariant
     c.in_ok-push_str.ensures.bytes
     (c.as_str.ensures.value ∙ c.in_ok-json_line.ensures ∙ ap (json_text c.args.problem.now) c.list-item.is)
+
+pub returns : goal.returns
+returns c =
+    c.loop-list.invariant
+    ∙ ap (λ lists. flat_map (json_text c.args.problem.now) lists) (take_all c.loop-list.list-index c.args.lists.now c.loop-list-test.false)

@@ -1,4 +1,5 @@
 use Rattle.std.proofs.Common.{◌≡◌, ◌+◌, take, arith}
+use Rattle.std.proofs.lemmas.Grind.{common_steps}
 use Rattle.tsn_model.specs.declared.GateEntry.{GateEntry}
 use Rattle.tsn_model.specs.Gates.{cycle_of}
 use Rattle.tsn_gate.proofs.Entries.{cycle_of-nil}
@@ -23,3 +24,6 @@ loop-entry-preserved c =
     let more = cycle_of_more entries c.loop-entry.entry-index none c.loop-entry-test.true in
     let so_far : cycle_of (take c.loop-entry.entry-index entries) + c.loop-entry.left ≡ 1000000000 = c.loop-entry.invariant in
     omega arith
+
+pub returns : goal.returns
+returns c = grind (arith, common_steps) steps 2000000

@@ -28,3 +28,9 @@ returns c =
     (IsListOf-windows c.args.timing.now c.args.offsets.now c.args.link windows all entries some
     (subst (IsTimeline entries) c.requires.cycle c.in_ok-entries.ensures.timeline)
     (subst (λ n. ShowsWindows windows n (guard_of c.args.timing.now c.args.link) entries n) c.requires.cycle guarded))
+
+pub windows_on-requires-clause-formed : goal.windows_on-requires-clause-formed
+windows_on-requires-clause-formed c = c.requires.formed
+
+pub windows_on-requires-clause-valid : goal.windows_on-requires-clause-valid
+windows_on-requires-clause-valid c = c.requires.valid

@@ -1,5 +1,6 @@
 use Rattle.std.proofs.Common.{◌+◌, MatchOption, sym, ap, ◌∙◌, subst, arith}
 use Rattle.std.specs.Global.{Vec}
+use Rattle.std.proofs.lemmas.Grind.{common_steps}
 use Rattle.tsn_gate.specs.declared.list.GateList.{GateList}
 use Rattle.tsn_gate.specs.GateLists.{IsUsed, IsListOf, AreWantedLists}
 use Rattle.tsn_gate.proofs.Wanted.{AreListsBelow, AreListsBelow-skip, AreListsBelow-more, AreWantedLists-below, HasWantedGates-lists, lists_exist}
@@ -33,3 +34,6 @@ returns c = record {
   gates = HasWantedGates-lists c.args.timing.now c.args.offsets.now c.cycle-cycle.ensures.well_formed c.loop-link.lists.items (wanted c);
   exist = lists_exist c.args.timing.now c.args.offsets.now c.cycle-cycle.ensures.well_formed c.loop-link.lists.items (wanted c);
 }
+
+pub list_of-requires-clause-formed : goal.list_of-requires-clause-formed
+list_of-requires-clause-formed c = grind (arith, common_steps) steps 2000000

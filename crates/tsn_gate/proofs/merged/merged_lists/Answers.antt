@@ -14,3 +14,6 @@ returns c =
     let merged = subst (λ wanted. AreMerged c.args.least wanted lists) c.deref-2.ensures.value c.in_ok-merge_all.ensures in
     let are : AreMergedLists network offsets c.args.least lists = AreMergedLists-merged network offsets formed c.in_ok-wanted.wanted.items lists c.in_ok-wanted.ensures.lists c.args.least merged in
     record { lists = are; gates = KeepsWantedGates-merged network offsets formed c.args.least lists are; exist = merged_exist network offsets formed c.args.least lists are }
+
+pub gate_lists-requires : goal.gate_lists-requires
+gate_lists-requires c = c.requires

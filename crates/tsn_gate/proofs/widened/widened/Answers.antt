@@ -105,3 +105,6 @@ returns c =
           (octets t (subst (λ n. t < n) (sym c.requires.whole) below));
       long = lasts;
     }
+
+pub goes_round-round-requires-clause-kept : goal.goes_round-round-requires-clause-kept
+goes_round-round-requires-clause-kept c = c.requires.kept
