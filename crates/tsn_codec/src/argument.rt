@@ -3,16 +3,17 @@ ghost use Rattle.std.specs.Prelude.{◌≡◌, ◌≤◌, ◌∷◌, true, List,
 ghost use Rattle.json.specs.Token.{Token, begin_object};
 ghost use Rattle.json.specs.Json.{read_key};
 ghost use Rattle.json.specs.Lex.{tokens};
-ghost use Rattle.serde_json.specs.Data.{depth};
+ghost use Rattle.serde_json.specs.Data.{depth, object, string, member, no_members};
 ghost use Rattle.serde_json.specs.Find.{get};
 ghost use Rattle.serde_json.specs.Read.{max_depth};
 ghost use Rattle.serde_json.specs.View.{view};
 ghost use Rattle.tsn_cert.specs.Form.{number};
+ghost use Rattle.tsn_cert.specs.Json.{number_value};
 ghost use Rattle.tsn_cert.specs.Fault.{Gives};
 ghost use Rattle.tsn_codec.specs.Matter.{IsArgumentExcess, IsWhy, IsObject, IsOfArgument, HasJust, IsStepsMisfit, IsArgumentMisfit, argument_keys};
 ghost use Rattle.tsn_cert.specs.Told.{key_name, Finds};
 ghost use Rattle.tsn_codec.specs.Written.{ArePlain, HasAs, BeginsArgument, EndsWithTarget, ArgumentStops, IsNoCertificate};
-ghost use Rattle.tsn_cert.specs.Argument.{goal_form, argument_format, goal_of, steps_in, steps_form, argument_of, argument_value, argument_fits, argument_in, argument_text};
+ghost use Rattle.tsn_cert.specs.Argument.{goal_form, argument_format, goal_of, steps_in, steps_form, argument_of, goal_word, argument_fits, argument_in, argument_text};
 ghost use Rattle.tsn_cert.specs.ArgumentLaws.{IsArgumentInGrammar};
 
 mod goal;
@@ -268,23 +269,24 @@ pub fn argument_to_json(alloc: Global, argument: &Argument) -> Result<String, No
         → argument_in (string_bytes s) ≡ Ok argument.now) }
     ensures grammar { OnOk result (IsArgumentInGrammar argument.now) }
 {
-    let value = argument_value(alloc, argument)?;
+    let steps = array_of::<Step>(alloc, argument.steps.list())?;
+    let value = argument_value(alloc, argument.goal, argument.target, steps)?;
     Ok(document::file_text(alloc, &value)?)
 }
 
-// The value that the file of an argument holds.
-#[tactic(auto, using(crate::proofs::Elements::map_same))]
-fn argument_value(alloc: Global, argument: &Argument) -> Result<Value, AllocError>
-    ensures value { IfOk result (λ v. view v ≡ argument_value argument.now) }
-    ensures reads_back { OnOk result (argument_of (argument_value argument.now) ≡ Some argument.now) }
+// The value that the file of an argument holds, of whose steps this is the value.
+fn argument_value(alloc: Global, goal: Goal, target: u64, steps: Value) -> Result<Value, AllocError>
+    ensures { IfOk result (λ v. view v ≡ object (member (codes "format") (number_value argument_format)
+        (member (codes "goal") (string (goal_word goal))
+        (member (codes "steps") (view steps)
+        (member (codes "target") (number_value target) no_members))))) }
 {
     let members = Ok(Map::new(alloc));
     let format = Ok(Value::from(ARGUMENT_FORMAT));
     let members = document::with_member(alloc, members, "format", format);
-    let goal = goal::goal_word(argument.goal).to_value(alloc);
+    let goal = goal::goal_word(goal).to_value(alloc);
     let members = document::with_member(alloc, members, "goal", goal);
-    let steps = array_of::<Step>(alloc, argument.steps.list());
-    let members = document::with_member(alloc, members, "steps", steps);
-    let target = Ok(Value::from(argument.target));
+    let members = document::with_member(alloc, members, "steps", Ok(steps));
+    let target = Ok(Value::from(target));
     document::object(document::with_member(alloc, members, "target", target))
 }

@@ -16,25 +16,11 @@ fn has_fact_lag(fact: Fact) -> bool
     matches!(fact, Fact::Order(order) if order.lag != 0)
 }
 
-// The number of the first fact with a number above its limit.
-fn first_large_fact(facts: &[Fact]) -> Option<usize>
-    ensures { result ≡ position (λ it. not (fact_fits it)) facts.now }
+// The number of the first part with a number above its limit.
+fn first_large<T: Limited>(parts: &[T]) -> Option<usize>
+    ensures { result ≡ position (λ it. not (T.within it)) parts.now }
 {
-    facts.iter().position(|fact| !fact.fits())
-}
-
-// The number of the first move with a number above its limit.
-fn first_large_move(moves: &[Move]) -> Option<usize>
-    ensures { result ≡ position (λ it. not (move_fits it)) moves.now }
-{
-    moves.iter().position(|it| !it.fits())
-}
-
-// The number of the first step with a number above its limit.
-fn first_large_step(steps: &[Step]) -> Option<usize>
-    ensures { result ≡ position (λ step. not (step_fits step)) steps.now }
-{
-    steps.iter().position(|step| !step.fits())
+    parts.iter().position(|part| !part.fits())
 }
 
 // The first part of a step with a number above its limit, and whether it has a lag other than 0; none where each is within.
@@ -42,12 +28,12 @@ fn excess_of_step(step: &Step) -> Option<(Part, bool)>
     ensures { MatchOption result (step_fits step.now ≡ true) (λ e. (step_fits step.now ≡ false) × IsStepExcess step.now e.0 e.1) }
 {
     let facts = step.clause.list();
-    match first_large_fact(facts) {
+    match first_large(facts) {
         Some(number) => return Some((Part::Fact(number), has_fact_lag(facts[number]))),
         None => {}
     }
     let moves = step.moves.list();
-    match first_large_move(moves) {
+    match first_large(moves) {
         Some(number) => Some((Part::Move(number), motion::has_lag(&moves[number]))),
         None => None,
     }
@@ -61,7 +47,7 @@ pub(super) fn excess(argument: &Argument) -> Option<Excess>
         return Some(Excess::At(Key::Target, argument.target));
     }
     let steps = argument.steps.list();
-    match first_large_step(steps) {
+    match first_large(steps) {
         Some(step) => match excess_of_step(&steps[step]) {
             Some((part, lags)) => Some(Excess::OfPart { step, part, lags }),
             None => None,
