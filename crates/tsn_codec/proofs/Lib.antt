@@ -5,6 +5,7 @@ pub mod Misfits
 pub mod Counted
 pub mod ToldLemmas
 pub mod Elements
+pub mod Rows
 pub mod Pairs
 pub mod Lists
 pub mod Steps

@@ -3,7 +3,7 @@ ghost use Rattle.std.specs.Prelude.{◌≡◌, drop, IfOk, OnOk, Some, None};
 ghost use Rattle.std.specs.List.{list_any};
 ghost use Rattle.serde_json.specs.View.{view};
 ghost use Rattle.tsn_cert.specs.declared.motion.Move.TheVariants as form;
-ghost use Rattle.tsn_cert.specs.Form.{becomes, over_or, row_of};
+ghost use Rattle.tsn_cert.specs.Form.{becomes, next, number, over, over_or, row_of};
 ghost use Rattle.tsn_cert.specs.Json.{worded_value};
 ghost use Rattle.tsn_cert.specs.Move.{later_row, frame_form, frame_value, frames_form, frames_of, frames_value, edge_form, edge_in, edge_value, filling_row, filling_parts, filling_items, fixed_form, fixed_in, wasting_row, placing_row, placing_parts, placing_items, pack_row, round_row, follow_row, motions, move_form, move_in, move_value};
 ghost use Rattle.tsn_codec.specs.ArgumentSays.{frame_element, move_element};
@@ -147,14 +147,27 @@ fn placing(tokens: &mut Tokens<'_>) -> Result<Placing, Unread>
     let link = tokens.index()?;
     let frame = Frame::take(tokens)?;
     let others = frames(tokens)?;
-    let some = frames(tokens)?;
+    match last_frames(tokens) {
+        Ok(some) => Ok(Placing {
+            link,
+            frame,
+            others,
+            some,
+        }),
+        Err(error) => {
+            drop(others);
+            Err(error)
+        }
+    }
+}
+
+// Frames alone, with the end of their array.
+fn last_frames(tokens: &mut Tokens<'_>) -> Result<Frames, Unread>
+    ensures { Takes (λ frames. frames) result ((next frames_form over).rest tokens.old) tokens.new }
+{
+    let frames = frames(tokens)?;
     tokens.close_array()?;
-    Ok(Placing {
-        link,
-        frame,
-        others,
-        some,
-    })
+    Ok(frames)
 }
 
 // A link and frames, with the end of their array.
@@ -162,9 +175,10 @@ fn pack(tokens: &mut Tokens<'_>) -> Result<Move, Unread>
     ensures { Takes (λ motion. motion) result ((becomes (λ p. form.Pack p.0 p.1) pack_row).rest tokens.old) tokens.new }
 {
     let link = tokens.index()?;
-    let frames = frames(tokens)?;
-    tokens.close_array()?;
-    Ok(Move::Pack(link, frames))
+    match last_frames(tokens) {
+        Ok(frames) => Ok(Move::Pack(link, frames)),
+        Err(error) => Err(error),
+    }
 }
 
 // Orders alone, with the end of their array.
@@ -193,17 +207,31 @@ fn filling(tokens: &mut Tokens<'_>) -> Result<Filling, Unread>
     let link = tokens.index()?;
     let frame = Frame::take(tokens)?;
     let others = frames(tokens)?;
+    match room(tokens) {
+        Ok((before, after, bound)) => Ok(Filling {
+            link,
+            frame,
+            others,
+            before,
+            after,
+            bound,
+        }),
+        Err(error) => {
+            drop(others);
+            Err(error)
+        }
+    }
+}
+
+// Where a room begins and ends, and a time, with the end of their array.
+fn room(tokens: &mut Tokens<'_>) -> Result<(Edge, Edge, u64), Unread>
+    ensures { Takes (λ room. room) result
+        ((next edge_form (λ before. next edge_form (λ after. next number (λ bound. over (before, after, bound))))).rest tokens.old) tokens.new }
+{
     let before = edge(tokens)?;
     let after = edge(tokens)?;
     let bound = last_number(tokens)?;
-    Ok(Filling {
-        link,
-        frame,
-        others,
-        before,
-        after,
-        bound,
-    })
+    Ok((before, after, bound))
 }
 
 // A link, frames, and those that can't move, with the end of their array.
@@ -212,13 +240,26 @@ fn wasting(tokens: &mut Tokens<'_>) -> Result<Wasting, Unread>
 {
     let link = tokens.index()?;
     let frames = frames(tokens)?;
-    let fixed = fixed(tokens)?;
+    match last_fixed(tokens) {
+        Ok(fixed) => Ok(Wasting {
+            link,
+            frames,
+            fixed,
+        }),
+        Err(error) => {
+            drop(frames);
+            Err(error)
+        }
+    }
+}
+
+// Frames that can't move, with the end of their array.
+fn last_fixed(tokens: &mut Tokens<'_>) -> Result<Sequence<Frame>, Unread>
+    ensures { Takes (λ frames. frames) result ((next fixed_form over).rest tokens.old) tokens.new }
+{
+    let frames = fixed(tokens)?;
     tokens.close_array()?;
-    Ok(Wasting {
-        link,
-        frames,
-        fixed,
-    })
+    Ok(frames)
 }
 
 // An array of a word and a placing.

@@ -1,9 +1,11 @@
 //! The parts of a certificate, read from tokens.
-ghost use Rattle.std.specs.Prelude.{◌≡◌, drop};
+ghost use Rattle.std.specs.Prelude.{◌≡◌, Some, drop, nat_le, option_and_then};
 ghost use Rattle.tsn_model.specs.Certificate.{split_node, leaf_node, tie_node, late, positive_cycle, load};
-ghost use Rattle.tsn_cert.specs.Form.{becomes, either_row, row_of};
+ghost use Rattle.tsn_cert.specs.Form.{becomes, closed, either_row, next, over, row_of};
+ghost use Rattle.tsn_cert.specs.Json.{when};
+ghost use Rattle.tsn_cert.specs.Leaf.{bound_leaf};
 ghost use Rattle.tsn_cert.specs.Node.{tree_node};
-ghost use Rattle.tsn_cert.specs.Cert.{chain_form, chains_form, reason_row, triple_row, cycle_row, first_entry_row, later_entry_row, entry_form, entries_form, chain_value, entry_value, node_value, load_row, tie_row, tie_load_row, node_rows, node_form, nodes_form, format_form, format_numbered};
+ghost use Rattle.tsn_cert.specs.Cert.{chain_form, chain_row, chains_form, first_frame, reason_row, triple_row, cycle_row, first_entry_row, later_entry_row, entry_form, entries_form, chain_value, entry_value, node_value, load_row, tie_row, tie_load_row, node_rows, node_form, nodes_form, format_form, format_numbered};
 ghost use Rattle.tsn_codec.specs.Takes.{Takes};
 ghost use Rattle.tsn_codec.specs.CertSays.{chain_element, entry_element, node_element};
 
@@ -56,12 +58,29 @@ fn entry(tokens: &mut Tokens<'_>, stream: usize) -> Result<Entry, Unread>
     ensures { Takes (λ entry. entry) result
         ((either_row (first_entry_row stream) (later_entry_row stream)).rest tokens.old) tokens.new }
 {
-    let Some(shift) = tokens.number_or_open()? else {
-        let chain = tokens.chain_behind()?;
-        tokens.close_array()?;
-        let frame = Frame { stream, shift: 0 };
-        return Ok(Entry { frame, chain });
-    };
+    match tokens.number_or_open()? {
+        Some(shift) => later_entry(tokens, stream, shift),
+        None => first_entry(tokens, stream),
+    }
+}
+
+// A chain behind the stream of a frame and the bracket that opens the chain, with the end of their array.
+fn first_entry(tokens: &mut Tokens<'_>, stream: usize) -> Result<Entry, Unread>
+    ensures { Takes (λ entry. entry) result
+        (option_and_then (λ p. closed (record { frame = first_frame stream; chain = p.0 }) p.1) (chain_row.rest tokens.old)) tokens.new }
+{
+    let chain = tokens.chain_behind()?;
+    tokens.close_array()?;
+    let frame = Frame { stream, shift: 0 };
+    Ok(Entry { frame, chain })
+}
+
+// A chain behind a frame whose shift is above 0, with the end of their array.
+fn later_entry(tokens: &mut Tokens<'_>, stream: usize, shift: u64) -> Result<Entry, Unread>
+    ensures { Takes (λ entry. entry) result (option_and_then
+        (λ s. (next chain_form (λ depths. over (record { frame = record { stream = stream; shift = s }; chain = depths }))).rest tokens.old)
+        (when (nat_le 1 shift) (Some shift))) tokens.new }
+{
     if shift == 0 {
         return Err(Unread::OtherForm);
     }
@@ -157,9 +176,7 @@ fn tie(tokens: &mut Tokens<'_>) -> Result<Node, Unread>
 {
     let stream = tokens.index()?;
     let chain = tokens.chain()?;
-    let chains = chains(tokens)?;
-    tokens.close_array()?;
-    Ok(Node::Tie(LowerBound::Late(stream, chain), chains))
+    tie_behind(tokens, LowerBound::Late(stream, chain))
 }
 
 // A link, entries and chains, with the end of their array.
@@ -168,9 +185,29 @@ fn tie_load(tokens: &mut Tokens<'_>) -> Result<Node, Unread>
 {
     let link = tokens.index()?;
     let entries = entries(tokens)?;
+    tie_behind(tokens, LowerBound::Load(link, entries))
+}
+
+// The chains of a tie of this bound, with the end of their array.
+fn tie_behind(tokens: &mut Tokens<'_>, bound: LowerBound) -> Result<Node, Unread>
+    ensures { Takes tree_node result ((next chains_form (λ chains. over (tie_node (bound_leaf bound) chains))).rest tokens.old) tokens.new }
+{
+    match last_chains(tokens) {
+        Ok(chains) => Ok(Node::Tie(bound, chains)),
+        Err(error) => {
+            drop(bound);
+            Err(error)
+        }
+    }
+}
+
+// Chains alone, with the end of their array.
+fn last_chains(tokens: &mut Tokens<'_>) -> Result<Chains, Unread>
+    ensures { Takes (λ chains. chains) result ((next chains_form over).rest tokens.old) tokens.new }
+{
     let chains = chains(tokens)?;
     tokens.close_array()?;
-    Ok(Node::Tie(LowerBound::Load(link, entries), chains))
+    Ok(chains)
 }
 
 // ---- nodes
