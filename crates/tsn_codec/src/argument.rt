@@ -271,7 +271,7 @@ pub fn argument_to_json(alloc: Global, argument: &Argument) -> Result<String, No
 {
     let steps = array_of::<Step>(alloc, argument.steps.list())?;
     let value = argument_value(alloc, argument.goal, argument.target, steps)?;
-    Ok(document::file_text(alloc, &value)?)
+    Ok(document::file_text(alloc, value)?)
 }
 
 // The value that the file of an argument holds, of whose steps this is the value.

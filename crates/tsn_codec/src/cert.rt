@@ -289,5 +289,5 @@ pub fn cert_to_json(alloc: Global, cert: &Cert) -> Result<String, NoMemory>
 {
     let nodes = array_of::<Node>(alloc, cert.nodes.list())?;
     let value = print::cert_value(alloc, cert.format.number(), cert.target, nodes)?;
-    Ok(document::file_text(alloc, &value)?)
+    Ok(document::file_text(alloc, value)?)
 }

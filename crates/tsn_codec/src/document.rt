@@ -4,7 +4,7 @@ ghost use Rattle.serde_json.specs.Data.{depth, string, object, put};
 ghost use Rattle.serde_json.specs.Find.{get};
 ghost use Rattle.serde_json.specs.Read.{max_depth};
 ghost use Rattle.serde_json.specs.View.{view, members_view};
-ghost use Rattle.serde_json.specs.Written.{has_float};
+ghost use Rattle.serde_json.specs.Written.{comma_if, compact_text, has_float};
 ghost use Rattle.tsn_cert.specs.Json.{value_of, whole_number, is_object_of, number_value, array_value, file_text};
 ghost use Rattle.tsn_cert.specs.Cert.{lag_items};
 ghost use Rattle.tsn_cert.specs.Fault.{named};
@@ -219,13 +219,35 @@ pub fn object(members: Result<Map<String, Value>, AllocError>) -> Result<Value, 
 }
 
 /// The text of a file that holds the value.
-pub fn file_text(alloc: Global, value: &Value) -> Result<String, AllocError>
-    ensures text { IfOk result (λ s. has_float (view value.now) ≡ false
-        → string_bytes s ≡ file_text (view value.now)) }
-    ensures reads_back { IfOk result (λ s. depth (view value.now) ≤ max_depth
-        → value_of (string_bytes s) ≡ Some (view value.now)) }
+pub fn file_text(alloc: Global, value: Value) -> Result<String, AllocError>
+    ensures text { IfOk result (λ s. has_float (view value) ≡ false
+        → string_bytes s ≡ file_text (view value)) }
+    ensures reads_back { IfOk result (λ s. depth (view value) ≤ max_depth
+        → value_of (string_bytes s) ≡ Some (view value)) }
 {
-    let mut text = value.to_string(alloc)?;
+    let text = value.to_string(alloc);
+    drop(value);
+    let mut text = text?;
     text.push_str("\n")?;
     Ok(text)
+}
+
+/// The text of an element of a list, behind a comma where it is a later one than the first.
+pub fn element_text(alloc: Global, later: bool, value: Value) -> Result<String, AllocError>
+    ensures { IfOk result (λ s. has_float (view value) ≡ false → string_bytes s ≡ comma_if later ++ compact_text (view value)) }
+{
+    let text = value.to_string(alloc);
+    drop(value);
+    with_comma(alloc, later, text?)
+}
+
+// The text, behind a comma where it is that of a later element than the first.
+fn with_comma(alloc: Global, later: bool, text: String) -> Result<String, AllocError>
+    ensures { IfOk result (λ s. string_bytes s ≡ comma_if later ++ string_bytes text) }
+{
+    if later {
+        format!(in alloc; ",{text}")
+    } else {
+        Ok(text)
+    }
 }

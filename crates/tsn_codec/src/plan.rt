@@ -93,7 +93,7 @@ pub fn plan_to_json(alloc: Global, plan: &Plan) -> Result<String, NoMemory>
         → plan_in (string_bytes s) ≡ Ok plan.now) }
 {
     let value = value_of(alloc, plan)?;
-    Ok(document::file_text(alloc, &value)?)
+    Ok(document::file_text(alloc, value)?)
 }
 
 // The value that a plan file holds.

@@ -3,6 +3,7 @@ ghost use Rattle.std.specs.Prelude.{◌≡◌, IfOk, string_bytes};
 ghost use Rattle.tsn_cert.specs.ArgumentText.{head_text, step_text, tail_text, ArgumentTextHasParts};
 
 use crate::argument::goal;
+use crate::document;
 use crate::list::Element;
 use std::alloc::Global;
 use tsn_cert::{Goal, Step};
@@ -26,13 +27,7 @@ pub fn step_to_json(alloc: Global, later: bool, step: &Step) -> Result<String, N
     ensures { IfOk result (λ s. string_bytes s ≡ step_text later step.now) }
 {
     let value = step.print(alloc)?;
-    let text = value.to_string(alloc)?;
-    drop(value);
-    if later {
-        Ok(format!(in alloc; ",{text}")?)
-    } else {
-        Ok(text)
-    }
+    Ok(document::element_text(alloc, later, value)?)
 }
 
 /// What an argument's text ends with, behind its steps. The target is in nanoseconds.

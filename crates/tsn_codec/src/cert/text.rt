@@ -5,6 +5,7 @@ ghost use Rattle.tsn_cert.specs.Laws.{IsInGrammar};
 ghost use Rattle.tsn_cert.specs.Text.{head_text, node_text, tail_text, CertTextHasParts};
 
 use crate::cert::print::node_value;
+use crate::document;
 use std::alloc::Global;
 use tsn_cert::{Format, Node};
 use tsn_model::NoMemory;
@@ -28,13 +29,7 @@ pub fn node_to_json(alloc: Global, later: bool, node: &Node) -> Result<String, N
     ensures grammar { OnOk result (IsInGrammar (tree_node node.now)) }
 {
     let value = node_value(alloc, node)?;
-    let text = value.to_string(alloc)?;
-    drop(value);
-    if later {
-        Ok(format!(in alloc; ",{text}")?)
-    } else {
-        Ok(text)
-    }
+    Ok(document::element_text(alloc, later, value)?)
 }
 
 /// What a certificate's text ends with, behind its nodes. The target is in nanoseconds.
