@@ -1,5 +1,6 @@
 use Rattle.std.proofs.Common.{◌≡◌, ◌+◌, ◌-◌, [], ◌∷◌, drop, get_or, Contains, sym, ap, ◌∙◌, subst, arith}
 use Rattle.std.proofs.lemmas.Result.{err_from_is_err_and}
+use Rattle.std.proofs.lemmas.Grind.{pieces}
 use Rattle.tsn_model.specs.Argument.{natural, head_at, end_at, left_over, AreInTurn}
 use Rattle.tsn_argue.specs.Faults.{IsWrongTurn}
 use Rattle.tsn_argue.specs.Rooms.{frames_of, network_of}
@@ -70,3 +71,6 @@ returns c =
     let all = found_end network view group.link (frames_of group) group.hall.first group.hall.last c.args.fixed.now c.loop-frame.low
     c.loop-frame.lost c.loop-frame.frame-index c.loop-frame-test.false c.loop-frame.invariant.is in
     (all.0, all.1, ap (λ n. c.loop-frame.lost + n) c.left_over.ensures.value ∙ all.2)
+
+pub judge_turn-requires-clause-on : goal.judge_turn-requires-clause-on
+judge_turn-requires-clause-on c = search (pieces, arith) depth 5 fits 300

@@ -1,6 +1,7 @@
-use Rattle.std.proofs.Common.{◌∷◌, ◌∙◌, subst}
+use Rattle.std.proofs.Common.{◌∷◌, ◌∙◌, subst, arith}
 use Rattle.std.specs.Prelude.{MatchOption}
 use Rattle.std.proofs.lemmas.List.Elements.{All-head}
+use Rattle.std.proofs.lemmas.Grind.{common_steps}
 use Rattle.tsn_model.specs.Certificate.{IsFrameOn}
 use Rattle.tsn_argue.specs.Faults.{AreShut, IsFirstOpen}
 use Rattle.tsn_argue.specs.Rooms.{network_of}
@@ -25,3 +26,6 @@ returns c =
     c.list-2.result.now
     c.requires.group.hall.unit c.requires.group.hall.idle (c.list.ensures ∙ c.tell-before.ensures.rows) (c.list-2.ensures ∙ c.tell-after.ensures.rows)
     c.args.from c.args.until c.first_open.result c.first_open.ensures)
+
+pub first_open-requires-clause-same : goal.first_open-requires-clause-same
+first_open-requires-clause-same c = grind (arith, common_steps) steps 2000000

@@ -1,6 +1,7 @@
 use Rattle.std.proofs.Common.{◌≡◌, ◌<◌, [], ◌∷◌, length, Ok, Some, None, sym, ap, subst, ◌∙◌, All, arith}
 use Rattle.std.proofs.lemmas.List.{length-map}
 use Rattle.std.proofs.lemmas.List.Elements.{All-contains}
+use Rattle.std.proofs.lemmas.Grind.{common_steps}
 use Rattle.tsn_model.specs.Argument.{Fact as ModelFact, IsFact, left_open, clause_at}
 use Rattle.tsn_cert.specs.Fact.{clause_of, fact_of}
 use Rattle.tsn_argue.specs.Motion.{facts_of, clauses_of, FindsUnit}
@@ -57,3 +58,21 @@ returns-in-Ok-None c =
       use_refutes network (clauses_of clauses) view number (facts_of c.one-in-Ok-None.result) is found,
       c.one-in-Ok-None.ensures.facts,
     )
+
+pub returns-then-number-clauses : goal.returns-then-number-clauses
+returns-then-number-clauses c = grind (arith, common_steps) steps 2000000
+
+pub unit_of-requires-clause-sound : goal.unit_of-requires-clause-sound
+unit_of-requires-clause-sound c = grind (arith, common_steps) steps 2000000
+
+pub refuting-requires-clause-sound : goal.refuting-requires-clause-sound
+refuting-requires-clause-sound c = grind (arith, common_steps) steps 2000000
+
+pub refuting-requires-clause-possible : goal.refuting-requires-clause-possible
+refuting-requires-clause-possible c = grind (arith, common_steps) steps 2000000
+
+pub one-requires-in-Ok-None : goal.one-requires-in-Ok-None
+one-requires-in-Ok-None c = grind (arith, common_steps) steps 2000000
+
+pub returns-in-Err : goal.returns-in-Err
+returns-in-Err c = grind (arith, common_steps) steps 2000000

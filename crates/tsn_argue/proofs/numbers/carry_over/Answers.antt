@@ -1,5 +1,6 @@
 use Rattle.std.proofs.Common.{◌≡◌, List, [], ℤ, pos, inl, inr, arith}
 use Rattle.std.proofs.lemmas.List.{ext_get_or}
+use Rattle.std.proofs.lemmas.Grind.{common_steps}
 use Rattle.tsn_model.proofs.Lists.{Contains-nil}
 use Rattle.tsn_argue.specs.Numbers.{AreTouched}
 use Rattle.tsn_argue.proofs.numbers.carry_over.Goals as goal
@@ -14,3 +15,6 @@ pub returns-clause-into : goal.returns-clause-into
 returns-clause-into c =
     let done : c.loop-stream.touched.items ≡ [] = grind arith in
     untouched c.args.from.now c.loop-stream.into (rw done at c.loop-stream.invariant)
+
+pub loop-stream-preserved : goal.loop-stream-preserved
+loop-stream-preserved c = grind (arith, common_steps) steps 2000000

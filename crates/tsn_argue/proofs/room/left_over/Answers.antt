@@ -1,4 +1,5 @@
 use Rattle.std.proofs.Common.{◌≡◌, ◌-◌, sym, ap, ◌∙◌, subst, arith}
+use Rattle.std.proofs.lemmas.Grind.{common_steps}
 use Rattle.tsn_model.specs.Argument.{wasted, left_over}
 use Rattle.tsn_sums.specs.Sums.{IsUnit, TellsFilled, Covers}
 use Rattle.tsn_argue.proofs.room.left_over.Goals as goal
@@ -20,3 +21,6 @@ unfolding left_over
 returns-clause-value c =
     c.wasted.ensures.value
     ∙ (λ i. wasted (c.requires.group.hall.unit i) ((c.list.ensures ∙ c.tell-units.ensures.rows) i) (c.saturating_sub-most.ensures i))
+
+pub wasted-requires-clause-within : goal.wasted-requires-clause-within
+wasted-requires-clause-within c = grind (arith, common_steps) steps 2000000

@@ -1,4 +1,5 @@
 use Rattle.std.proofs.Common.{◌≡◌, ℕ, ◌^◌, ◌<◌, sym, ap, ◌∙◌, subst, arith}
+use Rattle.std.proofs.lemmas.Grind.{common_steps}
 use Rattle.tsn_model.specs.Argument.{inserted}
 use Rattle.tsn_sums.specs.Sums.{key_of, AreLow}
 use Rattle.tsn_argue.specs.State.{view_of}
@@ -33,3 +34,6 @@ returns-clause-low c = λ low.
     (works_with view.timing.now c.args.link (view_of view) gap.low gap.high c.args.is_left (λ n. n < 2 ^ 32) c.args.frame
     c.args.rows.now
     (omega (arith, c.span_of-span.ensures.work, c.span_of-span.ensures.work_small)) low)
+
+pub span_of-span-requires-clause-on : goal.span_of-span-requires-clause-on
+span_of-span-requires-clause-on c = grind (arith, common_steps) steps 2000000

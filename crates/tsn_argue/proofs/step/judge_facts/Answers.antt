@@ -1,4 +1,5 @@
-use Rattle.std.proofs.Common.{All, refl}
+use Rattle.std.proofs.Common.{All, refl, arith}
+use Rattle.std.proofs.lemmas.Grind.{common_steps}
 use Rattle.tsn_model.specs.Argument.{IsFact}
 use Rattle.tsn_cert.specs.Fact.{fact_of}
 use Rattle.tsn_argue.specs.Faults.{IsWrongFact}
@@ -13,3 +14,6 @@ pub returns-in-Err : goal.returns-in-Err
 returns-in-Err c =
     told_at fact_of of_step.Fact (All (IsFact c.args.timing.now)) (λ before. IsWrongFact c.args.timing.now) c.args.clause.now c.loop-number.number
     _ c.in-Err.wrong _ c.loop-number-test.true c.loop-number.invariant c.in-Err.ensures refl
+
+pub loop-number-preserved : goal.loop-number-preserved
+loop-number-preserved c = grind (arith, common_steps) steps 2000000

@@ -1,4 +1,5 @@
-use Rattle.std.proofs.Common.{refl}
+use Rattle.std.proofs.Common.{refl, arith}
+use Rattle.std.proofs.lemmas.Grind.{common_steps}
 use Rattle.tsn_cert.specs.Move.{move_of}
 use Rattle.tsn_argue.specs.Motion.{clauses_of}
 use Rattle.tsn_argue.proofs.Taking.{possible}
@@ -22,3 +23,21 @@ make-requires-clause-made g c = record {
   allowed = c.in-Ok.ensures.0;
   shows = c.in-Ok.ensures.1;
 }
+
+pub judge-requires-clause-sound : goal.judge-requires-clause-sound
+judge-requires-clause-sound c = grind (arith, common_steps) steps 2000000
+
+pub judge-requires-clause-possible : goal.judge-requires-clause-possible
+judge-requires-clause-possible c = grind (arith, common_steps) steps 2000000
+
+pub judge-requires-clause-facts : goal.judge-requires-clause-facts
+judge-requires-clause-facts c = grind (arith, common_steps) steps 2000000
+
+pub make-requires-clause-sound : goal.make-requires-clause-sound
+make-requires-clause-sound c = grind (arith, common_steps) steps 2000000
+
+pub learn_all-requires-clause-sound : goal.learn_all-requires-clause-sound
+learn_all-requires-clause-sound c = grind (arith, common_steps) steps 2000000
+
+pub learn_all-requires-clause-facts : goal.learn_all-requires-clause-facts
+learn_all-requires-clause-facts c = grind (arith, common_steps) steps 2000000

@@ -1,4 +1,6 @@
 use Rattle.std.proofs.lemmas.Result.{err_from_is_err_and}
+use Rattle.std.proofs.Common.{arith}
+use Rattle.std.proofs.lemmas.Grind.{common_steps}
 use Rattle.tsn_argue.specs.Motion.{clauses_of}
 use Rattle.tsn_argue.specs.State.{view_of}
 use Rattle.tsn_argue.proofs.Telling.{no_moves, more_moves}
@@ -32,3 +34,15 @@ loop-number-preserved g c =
           (g.L.Observer.heard c.args.observer.now) (g.L.Observer.heard c.loop-number.observer) (g.L.Observer.heard c.make.new.observer)
           c.loop-number-test.true c.index-moves-number.is c.loop-number.invariant.becomes c.loop-number.invariant.told c.in_ok-make.ensures.told;
     }
+
+pub make-requires-clause-sound : goal.make-requires-clause-sound
+make-requires-clause-sound c = grind (arith, common_steps) steps 2000000
+
+pub make-requires-clause-facts : goal.make-requires-clause-facts
+make-requires-clause-facts c = grind (arith, common_steps) steps 2000000
+
+pub returns-clause-taken : goal.returns-clause-taken
+returns-clause-taken c = grind (arith, common_steps) steps 2000000
+
+pub returns-clause-told : goal.returns-clause-told
+returns-clause-told c = grind (arith, common_steps) steps 2000000

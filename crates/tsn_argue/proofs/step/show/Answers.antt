@@ -1,6 +1,7 @@
-use Rattle.std.proofs.Common.{List, map, length, ap, ◌∙◌, inl, inr}
+use Rattle.std.proofs.Common.{List, map, length, ap, ◌∙◌, inl, inr, arith}
 use Rattle.std.specs.Prelude.{Ok, Err, ◌==◌}
 use Rattle.std.proofs.lemmas.Result.{err_from_is_err_and}
+use Rattle.std.proofs.lemmas.Grind.{common_steps}
 use Rattle.tsn_cert.specs.Fact.{fact_of}
 use Rattle.tsn_cert.specs.Move.{move_of}
 use Rattle.tsn_cert.specs.Argument.{step_of}
@@ -66,3 +67,18 @@ returns-then-view-2-clause-told g c =
     (g.L.Observer.heard c.args.observer.now) (g.L.Observer.heard c.begin.new.self) (g.L.Observer.heard c.make_all.new.observer) _ c.requires.ready
     (supposed_of c.args.view.now c.suppose.new.view _ _ c.list-clause.ensures c.in_ok-suppose.ensures) (ap (map move_of) c.list.ensures)
     c.begin.ensures c.in_ok-make_all.ensures.told
+
+pub begin-requires-clause-sound : goal.begin-requires-clause-sound
+begin-requires-clause-sound c = grind (arith, common_steps) steps 2000000
+
+pub begin-requires-clause-even : goal.begin-requires-clause-even
+begin-requires-clause-even c = grind (arith, common_steps) steps 2000000
+
+pub begin-requires-clause-facts : goal.begin-requires-clause-facts
+begin-requires-clause-facts c = grind (arith, common_steps) steps 2000000
+
+pub suppose-requires-clause-sound : goal.suppose-requires-clause-sound
+suppose-requires-clause-sound c = grind (arith, common_steps) steps 2000000
+
+pub suppose-requires-clause-facts : goal.suppose-requires-clause-facts
+suppose-requires-clause-facts c = grind (arith, common_steps) steps 2000000

@@ -2,6 +2,7 @@ use Rattle.std.proofs.Common.{◌≡◌, List, length, refl, sym, ap, ◌∙◌,
 use Rattle.std.specs.Prelude.{Ok, Err}
 use Rattle.std.proofs.lemmas.Result.{err_from_is_err_and}
 use Rattle.std.proofs.lemmas.List.{length-map}
+use Rattle.std.proofs.lemmas.Grind.{common_steps}
 use Rattle.tsn_cert.specs.Fact.{fact_of, clause_of}
 use Rattle.tsn_cert.specs.Argument.{step_of}
 use Rattle.tsn_cert.specs.declared.fact.Fact.{Fact}
@@ -52,3 +53,18 @@ returns-else-list-le1-clause-told g c =
     taken_told c.args.self.now c.show.new.view _ (step_of c.args.step.now)
     (g.L.Observer.heard c.args.observer.now) (g.L.Observer.heard c.show.new.observer) (g.L.Observer.heard c.end.new.self)
     (ap clauses_of c.as_slice.ensures.value) shown.1 c.in_ok-show.ensures.told c.end.ensures
+
+pub show-requires-clause-sound : goal.show-requires-clause-sound
+show-requires-clause-sound c = grind (arith, common_steps) steps 2000000
+
+pub show-requires-clause-ready : goal.show-requires-clause-ready
+show-requires-clause-ready c = grind (arith, common_steps) steps 2000000
+
+pub show-requires-clause-facts : goal.show-requires-clause-facts
+show-requires-clause-facts c = grind (arith, common_steps) steps 2000000
+
+pub keep_clause-requires-clause-sound : goal.keep_clause-requires-clause-sound
+keep_clause-requires-clause-sound c = grind (arith, common_steps) steps 2000000
+
+pub keep_clause-requires-clause-facts : goal.keep_clause-requires-clause-facts
+keep_clause-requires-clause-facts c = grind (arith, common_steps) steps 2000000

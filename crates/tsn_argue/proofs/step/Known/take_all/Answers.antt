@@ -1,5 +1,6 @@
-use Rattle.std.proofs.Common.{◌≡◌, ◌⊎◌, List, map, inr, sym, subst}
+use Rattle.std.proofs.Common.{◌≡◌, ◌⊎◌, List, map, inr, sym, subst, arith}
 use Rattle.std.proofs.lemmas.List.{take_all}
+use Rattle.std.proofs.lemmas.Grind.{common_steps}
 use Rattle.tsn_cert.specs.declared.step.Step.{Step}
 use Rattle.tsn_cert.specs.Argument.{step_of, steps_of}
 use Rattle.tsn_check.specs.declared.argument.ArgumentFault.{ArgumentFault}
@@ -62,3 +63,21 @@ returns-in-None-clause-told g c =
     subst (λ (xs : List Step). g.L.Observer.heard c.loop-number.observer
     ≡ with_told (g.L.Observer.heard c.args.observer.now) (told_steps network aim (first_known network aim) (map step_of xs)))
     (take_all c.loop-number.number c.args.steps.now c.loop-number-test.false) c.loop-number.invariant.told
+
+pub returns-in-Err-clause-ok : goal.returns-in-Err-clause-ok
+returns-in-Err-clause-ok c = grind (arith, common_steps) steps 2000000
+
+pub returns-in-Err-clause-told : goal.returns-in-Err-clause-told
+returns-in-Err-clause-told c = grind (arith, common_steps) steps 2000000
+
+pub judge_end-requires-clause-sound : goal.judge_end-requires-clause-sound
+judge_end-requires-clause-sound c = grind (arith, common_steps) steps 2000000
+
+pub returns-in-None-clause-err : goal.returns-in-None-clause-err
+returns-in-None-clause-err c = grind (arith, common_steps) steps 2000000
+
+pub returns-in-Some-clause-ok : goal.returns-in-Some-clause-ok
+returns-in-Some-clause-ok c = grind (arith, common_steps) steps 2000000
+
+pub returns-in-Some-clause-told : goal.returns-in-Some-clause-told
+returns-in-Some-clause-told c = grind (arith, common_steps) steps 2000000
