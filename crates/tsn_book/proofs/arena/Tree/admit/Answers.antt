@@ -1,4 +1,5 @@
 use Rattle.std.proofs.Common.{◌≡◌, ◌<◌, length, arith}
+use Rattle.std.proofs.lemmas.Grind.{common_steps}
 use Rattle.tsn_book.specs.Arena.{history_of}
 use Rattle.tsn_book.proofs.Asking.{open_stop, stop_decides, length-history_of}
 use Rattle.tsn_book.proofs.arena.Tree.admit.Goals as goal
@@ -31,3 +32,9 @@ returns-else-is_met c =
     let count : length history ≡ length self.events.items = length-history_of self.places.origins self.events.items in
     let below : length history < c.args.bounds.limit = omega (arith, count, c.len.ensures.count, c.if-len-bounds.false) in
     (is_open, below, c.if-is_met.ensures, c.requires.best)
+
+pub is_met-requires-clause-kept : goal.is_met-requires-clause-kept
+is_met-requires-clause-kept c = grind (arith, common_steps) steps 2000000
+
+pub is_met-requires-clause-proof : goal.is_met-requires-clause-proof
+is_met-requires-clause-proof c = grind (arith, common_steps) steps 2000000

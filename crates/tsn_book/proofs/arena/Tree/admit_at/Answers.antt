@@ -1,5 +1,6 @@
-use Rattle.std.proofs.Common.{subst}
+use Rattle.std.proofs.Common.{subst, arith}
 use Rattle.std.proofs.lemmas.Result.{err_from_is_err_and}
+use Rattle.std.proofs.lemmas.Grind.{common_steps}
 use Rattle.tsn_node.specs.Outcome.{outcome_of}
 use Rattle.tsn_book.specs.Arena.{path_at, paths_of, history_of}
 use Rattle.tsn_book.specs.Book.{IsFault, IsMet}
@@ -27,3 +28,6 @@ returns c =
             (subst (λ met. IsMet self.network history met (outcome_of c.args.look.now)) c.requires.path admitted.2);
       },
     )
+
+pub admit-requires-clause-kept : goal.admit-requires-clause-kept
+admit-requires-clause-kept c = grind (arith, common_steps) steps 2000000

@@ -1,4 +1,5 @@
 use Rattle.std.proofs.Common.{◌≡◌, ◌++◌, ◌∷◌, [], arith, sym, ap, ◌∙◌, subst}
+use Rattle.std.proofs.lemmas.Grind.{common_steps}
 use Rattle.tsn_model.specs.Certificate.{decided}
 use Rattle.tsn_book.specs.Arena.{paths_of, path_at, history_of, IsAhead}
 use Rattle.tsn_model.specs.Search.{IsFirstOpen}
@@ -45,3 +46,6 @@ returns c =
     let known = c.loop-child.invariant in
     subst (IsFirstOpen (history_of self.places.origins self.events.items)) (sym known.2)
     (open_is_first c.requires.tree c.loop-child.place c.in_default.ensures known.3)
+
+pub first_child-requires-clause-some : goal.first_child-requires-clause-some
+first_child-requires-clause-some c = grind (arith, common_steps) steps 2000000

@@ -1,5 +1,6 @@
-use Rattle.std.proofs.Common.{◌≡◌, MatchBool, min, sym, ap, ◌∙◌, subst}
+use Rattle.std.proofs.Common.{◌≡◌, MatchBool, min, sym, ap, ◌∙◌, subst, arith}
 use Rattle.std.specs.Prelude.{nat_lt}
+use Rattle.std.proofs.lemmas.Grind.{common_steps}
 use Rattle.tsn_model.specs.Search.{best_bound}
 use Rattle.tsn_model.specs.Replies.{IsUnmet}
 use Rattle.tsn_node.specs.Outcome.{outcome_of}
@@ -18,3 +19,6 @@ returns-in-Pruned c =
     subst (λ o. MatchBool (nat_lt c.min.result c.in-Pruned.bound) (IsMet self.network history path (outcome_of o))
     (IsUnmet self.network history path (outcome_of o))) (sym c.in-Pruned.is)
     (met_by_bound self.network (best_bound self.network history) c.in-Pruned.bound c.min.result least)
+
+pub is_no_better-requires-clause-kept : goal.is_no_better-requires-clause-kept
+is_no_better-requires-clause-kept c = grind (arith, common_steps) steps 2000000

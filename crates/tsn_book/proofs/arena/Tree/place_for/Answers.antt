@@ -1,5 +1,6 @@
-use Rattle.std.proofs.Common.{◌≡◌, Any, rules, sym, subst}
+use Rattle.std.proofs.Common.{◌≡◌, Any, rules, sym, subst, arith}
 use Rattle.std.proofs.lemmas.Result.{err_from_is_err_and}
+use Rattle.std.proofs.lemmas.Grind.{common_steps}
 use Rattle.tsn_model.specs.Schedule.{IsConflict}
 use Rattle.tsn_model.specs.Replies.{SplitsNone, SplitsAgain}
 use Rattle.tsn_node.specs.Outcome.{outcome_of}
@@ -80,3 +81,9 @@ returns-in_default c =
             (subst (λ met. IsMet self.network history met (outcome_of c.args.event.now.look)) c.path-path.ensures.value c.in_ok-place.ensures.2);
       },
     )
+
+pub admit-requires-clause-kept : goal.admit-requires-clause-kept
+admit-requires-clause-kept c = grind (arith, common_steps) steps 2000000
+
+pub admit-requires-clause-stop : goal.admit-requires-clause-stop
+admit-requires-clause-stop c = grind (arith, common_steps) steps 2000000

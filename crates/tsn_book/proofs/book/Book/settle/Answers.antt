@@ -1,4 +1,5 @@
 use Rattle.std.proofs.Common.{◌≡◌, ◌++◌, ◌∷◌, [], length, arith, sym, ap, ◌∙◌, subst}
+use Rattle.std.proofs.lemmas.Grind.{common_steps}
 use Rattle.tsn_model.specs.Search.{made_paths, IsAllowed}
 use Rattle.tsn_model.specs.Walk.{path_made}
 use Rattle.tsn_node.specs.Outcome.{outcome_of}
@@ -45,3 +46,9 @@ returns-in-Ok-enter-clause-ok c =
       limit = before.limit;
       history = before.history ++ record { teller = c.args.teller; event = record { path = path; outcome = outcome } } ∷ [];
     } in more) same
+
+pub place_for-placed-requires-clause-tree : goal.place_for-placed-requires-clause-tree
+place_for-placed-requires-clause-tree c = grind (arith, common_steps) steps 2000000
+
+pub place_for-placed-requires-clause-kept : goal.place_for-placed-requires-clause-kept
+place_for-placed-requires-clause-kept c = grind (arith, common_steps) steps 2000000

@@ -1,6 +1,7 @@
 use Rattle.std.proofs.Common.{◌++◌, ◌∷◌, [], map, reverse, sym, ap, ◌∙◌, subst, arith}
 use Rattle.std.specs.Prelude.{All}
 use Rattle.std.proofs.lemmas.List.{map-append}
+use Rattle.std.proofs.lemmas.Grind.{common_steps}
 use Rattle.tsn_model.specs.Network.{Network}
 use Rattle.tsn_node.specs.Outcome.{outcome_of}
 use Rattle.tsn_node.specs.Right.{HasProof}
@@ -47,3 +48,15 @@ returns-in-Err-clause-fault c =
     c.in-Err.ensures.fault in
     refused_event book now c.args.teller c.args.events.items i.taken event (reverse c.pop.new.self.items) _ c.in-Err.refused.fault next settled
     (omega (arith, many, c.count.ensures.count, c.count-before.ensures.count)) is
+
+pub loop-event-init : goal.loop-event-init
+loop-event-init c = grind (arith, common_steps) steps 2000000
+
+pub returns-clause-some : goal.returns-clause-some
+returns-clause-some c = grind (arith, common_steps) steps 2000000
+
+pub returns-clause-fault : goal.returns-clause-fault
+returns-clause-fault c = grind (arith, common_steps) steps 2000000
+
+pub returns-clause-lawful : goal.returns-clause-lawful
+returns-clause-lawful c = grind (arith, common_steps) steps 2000000

@@ -1,6 +1,7 @@
 use Rattle.std.proofs.Common.{◌≡◌, ◌≢◌, ℕ, ◌≤◌, ◌∷◌, [], List, drop, length, sym, ap, ◌∙◌, subst, arith}
 use Rattle.std.specs.List.{slice_index_or}
 use Rattle.std.proofs.lemmas.List.{nil_from_length}
+use Rattle.std.proofs.lemmas.Grind.{common_steps}
 use Rattle.tsn_model.specs.declared.Decision.{Decision}
 use Rattle.tsn_model.specs.Search.{Event, Outcome}
 use Rattle.tsn_model.specs.Walk.{path_made}
@@ -106,3 +107,6 @@ pub returns-clause-lawful : goal.returns-clause-lawful
 returns-clause-lawful c =
     let ledger = c.settle_waiting-settled.new.self in
     subst IsLawful (sym (same_progress ledger c.dismiss.new.self.items c.dismiss.ensures.items)) (ledger_lawful ledger c.settle_waiting-settled.ensures.agrees)
+
+pub bring-requires : goal.bring-requires
+bring-requires c = grind (arith, common_steps) steps 2000000

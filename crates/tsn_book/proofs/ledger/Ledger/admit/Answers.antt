@@ -1,5 +1,6 @@
-use Rattle.std.proofs.Common.{◌<◌, List, length, sym, ◌∙◌, subst}
+use Rattle.std.proofs.Common.{◌<◌, List, length, sym, ◌∙◌, subst, arith}
 use Rattle.std.specs.Prelude.{MatchResult}
+use Rattle.std.proofs.lemmas.Grind.{common_steps}
 use Rattle.tsn_model.specs.declared.Decision.{Decision}
 use Rattle.tsn_model.specs.Search.{IsAllowed}
 use Rattle.tsn_node.specs.Outcome.{outcome_of}
@@ -42,3 +43,9 @@ returns c =
     × IsAllowed ledger.tree.network history (record { path = path; outcome = outcome_of c.next-look.result.now }))
     (λ fault. IsFault ledger.tree.network ledger.bounds.limit history (record { path = path; outcome = outcome_of c.next-look.result.now }) fault))
     same c.admit_at.ensures)
+
+pub admit_at-requires-clause-tree : goal.admit_at-requires-clause-tree
+admit_at-requires-clause-tree c = grind (arith, common_steps) steps 2000000
+
+pub admit_at-requires-clause-kept : goal.admit_at-requires-clause-kept
+admit_at-requires-clause-kept c = grind (arith, common_steps) steps 2000000

@@ -1,6 +1,7 @@
 use Rattle.std.proofs.Common.{◌≡◌, arith, ap, ◌∙◌}
 use Rattle.std.specs.List.{slice_index_or}
 use Rattle.std.proofs.lemmas.List.{get_or_default}
+use Rattle.std.proofs.lemmas.Grind.{common_steps}
 use Rattle.tsn_model.specs.Search.{tally_as}
 use Rattle.tsn_node.specs.Outcome.{outcome_of}
 use Rattle.tsn_book.specs.Arena.{settled_in}
@@ -31,3 +32,9 @@ returns-clause-tally c =
     c.index.ensures ∙ get_or_default ledger.tallies.items c.args.teller c.index.result.now (tally_as 0 0 0) c.requires.teller in
     c.tally_after.ensures ∙ ap (λ t. tally_after t (outcome_of c.next-look.result.now)) before
     ∙ ap (λ l. tally_after (slice_index_or ledger.tallies.items c.args.teller (tally_as 0 0 0)) (outcome_of l)) c.next-look.ensures
+
+pub is_better-better-requires-clause-tree : goal.is_better-better-requires-clause-tree
+is_better-better-requires-clause-tree c = grind (arith, common_steps) steps 2000000
+
+pub is_better-better-requires-clause-kept : goal.is_better-better-requires-clause-kept
+is_better-better-requires-clause-kept c = grind (arith, common_steps) steps 2000000

@@ -1,5 +1,6 @@
-use Rattle.std.proofs.Common.{◌++◌, ◌∷◌, [], List, length, sym, ap, ◌∙◌}
+use Rattle.std.proofs.Common.{◌++◌, ◌∷◌, [], List, length, sym, ap, ◌∙◌, arith}
 use Rattle.std.proofs.lemmas.List.{length-set}
+use Rattle.std.proofs.lemmas.Grind.{common_steps}
 use Rattle.tsn_model.specs.declared.Decision.{Decision}
 use Rattle.tsn_model.specs.Search.{Settlement}
 use Rattle.tsn_book.specs.Arena.{path_at, paths_of, settled_in}
@@ -51,3 +52,9 @@ returns-clause-ok c =
       event = record { path = path; outcome = next_outcome ledger };
     } in history ++ one ∷ []) (same_path ledger c.requires.agrees c.args.place) in
     λ i. record { network = c.settle.ensures.network i; tellers = tellers i; limit = ledger.bounds.limit; history = longer i }
+
+pub settle-requires-clause-tree : goal.settle-requires-clause-tree
+settle-requires-clause-tree c = grind (arith, common_steps) steps 2000000
+
+pub returns-clause-waiting : goal.returns-clause-waiting
+returns-clause-waiting c = grind (arith, common_steps) steps 2000000

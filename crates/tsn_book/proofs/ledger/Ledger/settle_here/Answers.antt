@@ -1,4 +1,6 @@
-use Rattle.std.proofs.Common.{List, sym, ap, ◌∙◌, subst}
+use Rattle.std.proofs.Common.{List, sym, ap, ◌∙◌, subst, arith}
+use Rattle.std.proofs.lemmas.Grind.{common_steps}
+use Rattle.std.proofs.lemmas.Result.{err_from_is_err_and}
 use Rattle.tsn_model.specs.declared.Decision.{Decision}
 use Rattle.tsn_model.specs.Search.{IsAllowed}
 use Rattle.tsn_book.specs.Arena.{settled_in}
@@ -20,3 +22,27 @@ pub returns-clause-ok : goal.returns-clause-ok
 returns-clause-ok c =
     c.record.ensures.ok ∙ rw (c.reserve.ensures.network, c.reserve.ensures.origins, c.reserve.ensures.events)
     (ap (λ (path : List Decision). with_one c.args.self.now c.args.teller path (next_outcome c.args.self.now)) c.requires.at.is)
+
+pub admit-requires-clause-at : goal.admit-requires-clause-at
+admit-requires-clause-at c = grind (arith, common_steps) steps 2000000
+
+pub admit-requires-clause-proof : goal.admit-requires-clause-proof
+admit-requires-clause-proof c = grind (arith, common_steps) steps 2000000
+
+pub admit-requires-clause-undecided : goal.admit-requires-clause-undecided
+admit-requires-clause-undecided c = grind (arith, common_steps) steps 2000000
+
+pub returns-in_err-admit-clause-ok : goal.returns-in_err-admit-clause-ok
+returns-in_err-admit-clause-ok c =
+    let p = err_from_is_err_and c.from_residual.result c.from_residual.ensures.1 in
+    rw p.1 tt
+
+pub returns-in_err-admit-clause-waiting : goal.returns-in_err-admit-clause-waiting
+returns-in_err-admit-clause-waiting c =
+    let p = err_from_is_err_and c.from_residual.result c.from_residual.ensures.1 in
+    rw p.1 tt
+
+pub returns-in_err-admit-clause-fault : goal.returns-in_err-admit-clause-fault
+returns-in_err-admit-clause-fault c =
+    let p = err_from_is_err_and c.from_residual.result c.from_residual.ensures.1 in
+    rw (p.1, p.2) c.in_err-admit.ensures

@@ -1,5 +1,6 @@
-use Rattle.std.proofs.Common.{◌≡◌, List, sym, ap, ◌∙◌, subst}
+use Rattle.std.proofs.Common.{◌≡◌, List, sym, ap, ◌∙◌, subst, arith}
 use Rattle.std.specs.Prelude.{OnOk}
+use Rattle.std.proofs.lemmas.Grind.{common_steps}
 use Rattle.tsn_model.specs.declared.Decision.{Decision}
 use Rattle.tsn_model.specs.Search.{Settlement}
 use Rattle.tsn_model.specs.Walk.{IsPlaceOf}
@@ -34,3 +35,27 @@ pub returns-in-Ok-clause-walk : goal.returns-in-Ok-clause-walk
 returns-in-Ok-clause-walk c =
     c.go_on.ensures.walk ∙ sym (closes_leaf c.args.walk.now (next_outcome c.args.self.now)
     (subst (λ (look : Look). IsLeafOutcome (outcome_of look)) c.next.ensures c.in_default.ensures))
+
+pub split_at-requires-clause-agrees : goal.split_at-requires-clause-agrees
+split_at-requires-clause-agrees c = grind (arith, common_steps) steps 2000000
+
+pub split_at-requires-clause-at : goal.split_at-requires-clause-at
+split_at-requires-clause-at c = grind (arith, common_steps) steps 2000000
+
+pub returns-in-Some-clause-agrees : goal.returns-in-Some-clause-agrees
+returns-in-Some-clause-agrees c = grind (arith, common_steps) steps 2000000
+
+pub returns-in-Some-clause-waiting : goal.returns-in-Some-clause-waiting
+returns-in-Some-clause-waiting c = grind (arith, common_steps) steps 2000000
+
+pub returns-in-Some-clause-at : goal.returns-in-Some-clause-at
+returns-in-Some-clause-at c = grind (arith, common_steps) steps 2000000
+
+pub returns-in-Some-clause-refused : goal.returns-in-Some-clause-refused
+returns-in-Some-clause-refused c = grind (arith, common_steps) steps 2000000
+
+pub returns-in-Some-clause-stays : goal.returns-in-Some-clause-stays
+returns-in-Some-clause-stays c = grind (arith, common_steps) steps 2000000
+
+pub settle_here-requires-clause-agrees : goal.settle_here-requires-clause-agrees
+settle_here-requires-clause-agrees c = grind (arith, common_steps) steps 2000000

@@ -1,4 +1,5 @@
 use Rattle.std.proofs.Common.{◌-◌, [], refl, arith}
+use Rattle.std.proofs.lemmas.Grind.{common_steps}
 use Rattle.tsn_book.specs.Ledger.{progress_of}
 use Rattle.tsn_book.proofs.Below.{not_walked, no_step}
 use Rattle.tsn_book.proofs.Partway.{no_fewer, next_proof, next_refused, next_settled}
@@ -42,3 +43,18 @@ pub loop-self-preserved : goal.loop-self-preserved
 loop-self-preserved c =
     next_settled c.loop-self.invariant c.loop-self-test.ensures c.settle_next.new.self c.settle_next.new.walk _
     c.settle_next.ensures.agrees c.in-Ok.ensures.ok c.in-Ok.ensures.waiting c.in-Ok.ensures.walk c.in-Ok.ensures.at
+
+pub settle_next-requires-clause-agrees : goal.settle_next-requires-clause-agrees
+settle_next-requires-clause-agrees c = grind (arith, common_steps) steps 2000000
+
+pub settle_next-requires-clause-at : goal.settle_next-requires-clause-at
+settle_next-requires-clause-at c = grind (arith, common_steps) steps 2000000
+
+pub returns-clause-agrees : goal.returns-clause-agrees
+returns-clause-agrees c = grind (arith, common_steps) steps 2000000
+
+pub returns-clause-some : goal.returns-clause-some
+returns-clause-some c = grind (arith, common_steps) steps 2000000
+
+pub returns-clause-fault : goal.returns-clause-fault
+returns-clause-fault c = grind (arith, common_steps) steps 2000000

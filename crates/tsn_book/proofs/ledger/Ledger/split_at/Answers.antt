@@ -1,4 +1,5 @@
 use Rattle.std.proofs.Common.{◌≡◌, ◌-◌, List, length, take, sym, ap, ◌∙◌, subst, arith}
+use Rattle.std.proofs.lemmas.Grind.{common_steps}
 use Rattle.tsn_model.specs.declared.Decision.{Decision}
 use Rattle.tsn_model.specs.declared.Side.TheVariants.{Left}
 use Rattle.tsn_model.specs.Search.{split}
@@ -74,3 +75,6 @@ returns c =
       stays = tt;
       fault = tt;
     }
+
+pub push-requires : goal.push-requires
+push-requires c = grind (arith, common_steps) steps 2000000

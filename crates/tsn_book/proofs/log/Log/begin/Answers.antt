@@ -2,6 +2,7 @@ use Rattle.std.proofs.Common.{◌≡◌, ◌+◌, ◌^◌, ◌≤◌, ◌++◌, 
 use Rattle.std.specs.List.{flat_map}
 use Rattle.std.proofs.lemmas.Bool.{eqb-true}
 use Rattle.std.proofs.lemmas.List.{nil_from_length}
+use Rattle.std.proofs.lemmas.Grind.{common_steps}
 use Rattle.tsn_book.specs.declared.log.Settled.{Settled}
 use Rattle.tsn_book.specs.declared.log.Piece.{Piece}
 use Rattle.tsn_book.specs.Log.{Logged, items_of, IsPieced}
@@ -49,3 +50,9 @@ returns-clause-items c =
           rw w.self-inside-is (ap (λ pieces. flat_map items_of pieces ++ []) c.try_reserve.ensures.items
           ∙ ap (λ items. flat_map items_of full ++ items) (sym (nil_from_length last empty)) ∙ whole)
     ]
+
+pub returns-clause-refused : goal.returns-clause-refused
+returns-clause-refused c = grind (arith, common_steps) steps 2000000
+
+pub returns-clause-returned : goal.returns-clause-returned
+returns-clause-returned c = grind (arith, common_steps) steps 2000000

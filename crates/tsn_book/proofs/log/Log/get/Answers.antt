@@ -1,5 +1,6 @@
-use Rattle.std.proofs.Common.{take, sym, ap, ◌∙◌}
+use Rattle.std.proofs.Common.{take, sym, ap, ◌∙◌, arith}
 use Rattle.std.specs.List.{slice_index_or}
+use Rattle.std.proofs.lemmas.Grind.{common_steps}
 use Rattle.tsn_book.specs.Log.{Logged}
 use Rattle.tsn_book.proofs.Pieces.{stands_in, read_full}
 use Rattle.tsn_book.proofs.log.Log.get.Goals as goal
@@ -17,3 +18,6 @@ returns-else-number-self c =
     c.index-else-number-self.ensures
     ∙ sym (read_full full c.self.invariant.numbered (take inside.settled inside.last.items) number k piece stands read)
     ∙ ap (λ (log : Logged). slice_index_or log.items number read) c.self.view_is
+
+pub returns-then-number-self : goal.returns-then-number-self
+returns-then-number-self c = grind (arith, common_steps) steps 2000000

@@ -1,6 +1,7 @@
 use Rattle.std.proofs.Common.{◌≡◌, ◌<◌, ◌≤◌, ◌-◌, ◌++◌, length, take, arith, refl, sym, ap, ◌∙◌}
 use Rattle.std.specs.List.{flat_map, slice_index_or}
 use Rattle.std.specs.Vec.{with_items}
+use Rattle.std.proofs.lemmas.Grind.{common_steps}
 use Rattle.tsn_book.specs.declared.log.Settled.{Settled}
 use Rattle.tsn_book.specs.declared.log.Piece.{Piece}
 use Rattle.tsn_book.specs.Log.{Logged, items_of}
@@ -93,3 +94,12 @@ returns-else-number-self-clause-others c =
     λ other apart d.
     written_others c.self.invariant k was piece c.index_mut-piece.ensures.value (ap length whole ∙ as_many) number stands same other apart d
     ∙ ap (λ (log : Logged). slice_index_or log.items other d) c.self.view_is
+
+pub take_at-requires : goal.take_at-requires
+take_at-requires c = grind (arith, common_steps) steps 2000000
+
+pub invariant_of-self : goal.invariant_of-self
+invariant_of-self c = grind (arith, common_steps) steps 2000000
+
+pub returns-then-number-self-clause-counted : goal.returns-then-number-self-clause-counted
+returns-then-number-self-clause-counted c = grind (arith, common_steps) steps 2000000

@@ -1,4 +1,5 @@
 use Rattle.std.proofs.Common.{length, arith, ap}
+use Rattle.std.proofs.lemmas.Result.{err_from_is_err_and}
 use Rattle.tsn_book.proofs.Branchings.{length-origins_of}
 use Rattle.tsn_book.proofs.statuses.Places.reserve.Goals as goal
 
@@ -18,3 +19,8 @@ returns-clause-small c =
       length-origins_of c.try_reserve-2.new.self.items,
       ap length c.try_reserve-2.ensures.items,
     )
+
+pub returns-in_err-try_reserve-clause-room : goal.returns-in_err-try_reserve-clause-room
+returns-in_err-try_reserve-clause-room c =
+    let p = err_from_is_err_and c.from_residual.result c.from_residual.ensures.1 in
+    rw p.1 tt
