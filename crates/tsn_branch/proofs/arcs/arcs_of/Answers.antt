@@ -1,6 +1,7 @@
 use Rattle.std.proofs.Common.{◌∷◌, ◌++◌, [], length, List, map, take, sym, ap, ◌∙◌, arith}
 use Rattle.std.proofs.lemmas.List.{map_more, take_all}
 use Rattle.std.proofs.lemmas.List.Elements.{All-push}
+use Rattle.std.proofs.lemmas.Result.{err_from_is_err_and}
 use Rattle.tsn_model.specs.declared.Arc.{Arc}
 use Rattle.tsn_model.specs.Arcs as model
 use Rattle.tsn_model.specs.Arcs.{arc_of, arc_on}
@@ -25,3 +26,8 @@ returns-clause-value c =
     λ network is.
     let past = c.loop-decision-test.false in
     c.loop-decision.invariant.so_far network is ∙ ap (map (arc_of network)) (take_all c.loop-decision.decision-index c.args.path.now (omega arith))
+
+pub returns-in_err-arcs-clause-among : goal.returns-in_err-arcs-clause-among
+returns-in_err-arcs-clause-among c =
+    let p = err_from_is_err_and c.from_residual.result c.from_residual.ensures.1 in
+    rw p.1 tt

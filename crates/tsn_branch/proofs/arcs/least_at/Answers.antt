@@ -2,6 +2,7 @@ use Rattle.std.proofs.Common.{◌≡◌, ◌-◌, ◌<◌, ◌++◌, ◌∷◌, 
 use Rattle.std.proofs.lemmas.Result.{IfOk-weaker}
 use Rattle.std.proofs.lemmas.Option.{slice_get_within, get_or_from_slice_get}
 use Rattle.std.specs.Prelude.{IfSome, option_copied}
+use Rattle.std.proofs.lemmas.Grind.{common_steps}
 use Rattle.tsn_model.specs.declared.Arc.{Arc}
 use Rattle.tsn_model.specs.declared.Triple.{Triple}
 use Rattle.tsn_model.specs.declared.Decision.{Decision}
@@ -60,3 +61,9 @@ returns-in-Some-last c =
     (answers_below network path last c.in-Some.above.now c.arc-arc.result outcome (omega arith) at (subst (λ p. IsLeastAbove network p c.in-Some.above.now) (sym same) above)
     (c.arc-arc.ensures.value network c.requires.conflicts) answers))
     c.with_arc.ensures
+
+pub with_arc-requires : goal.with_arc-requires
+with_arc-requires c = grind (arith, common_steps) steps 2000000
+
+pub least_by-found-requires-clause-among : goal.least_by-found-requires-clause-among
+least_by-found-requires-clause-among c = grind (arith, common_steps) steps 2000000

@@ -1,4 +1,5 @@
 use Rattle.std.proofs.Common.{arith}
+use Rattle.std.proofs.lemmas.Grind.{elements}
 use Rattle.tsn_branch.proofs.Tying.{compared_at, compared_all}
 use Rattle.tsn_branch.proofs.chains.compared.Goals as goal
 
@@ -9,3 +10,6 @@ pub returns : goal.returns
 returns c =
     let past = c.loop-stream-test.false in
     compared_all c.args.offsets.now c.args.best.now c.requires.count c.requires.some (λ i below. c.loop-stream.invariant i (omega arith))
+
+pub returns-then-offsets-stream : goal.returns-then-offsets-stream
+returns-then-offsets-stream c = grind (arith, elements) steps 2000000

@@ -1,4 +1,5 @@
-use Rattle.std.proofs.Common.{List, ℕ, sym, subst}
+use Rattle.std.proofs.Common.{List, ℕ, sym, subst, arith}
+use Rattle.std.proofs.lemmas.Grind.{common_steps}
 use Rattle.tsn_branch.specs.Chains.{IsCompared}
 use Rattle.tsn_branch.specs.Look.{ShowsUpto}
 use Rattle.tsn_branch.proofs.Tying.{upto_tie}
@@ -15,3 +16,9 @@ returns c =
       compared.not_before,
       λ path solves. subst (ShowsUpto network path lowest.offsets best) (sym c.in_ok-chains_to.ensures) (upto_tie network path lowest solves best n compared),
     )
+
+pub compared-requires-clause-some : goal.compared-requires-clause-some
+compared-requires-clause-some c = grind (arith, common_steps) steps 2000000
+
+pub compared-requires-clause-count : goal.compared-requires-clause-count
+compared-requires-clause-count c = grind (arith, common_steps) steps 2000000

@@ -1,6 +1,8 @@
 use Rattle.std.proofs.Common.{pos, ◌≡◌, ◌<◌, ◌-◌, List, [], ◌∷◌, ◌++◌, length, take, get_or, sym, ap, ◌∙◌, subst, arith}
 use Rattle.std.specs.Prelude.{Contains, IfNone, IfSome}
 use Rattle.std.proofs.lemmas.List.Elements.{All-get_or}
+use Rattle.std.proofs.lemmas.Grind.{common_steps}
+use Rattle.std.proofs.lemmas.Result.{err_from_is_err_and}
 use Rattle.tsn_model.specs.declared.Arc.{Arc}
 use Rattle.tsn_model.specs.declared.Decision.{Decision}
 use Rattle.tsn_model.specs.declared.Side.TheVariants.{Left}
@@ -69,3 +71,16 @@ returns-clause-arcs c =
     let above = c.saturating_sub-above.ensures in
     let long : c.loop-depth.depth ≡ length path - 1 = omega arith in
     c.loop-depth.invariant.arcs ∙ ap (λ n. arcs_of network (take n path)) long
+
+pub push-requires : goal.push-requires
+push-requires c = grind (arith, common_steps) steps 2000000
+
+pub returns-in_err-_closed-clause-releases : goal.returns-in_err-_closed-clause-releases
+returns-in_err-_closed-clause-releases c =
+    let p = err_from_is_err_and c.from_residual.result c.from_residual.ensures.1 in
+    rw p.1 tt
+
+pub returns-in_err-_closed-clause-arcs : goal.returns-in_err-_closed-clause-arcs
+returns-in_err-_closed-clause-arcs c =
+    let p = err_from_is_err_and c.from_residual.result c.from_residual.ensures.1 in
+    rw p.1 tt

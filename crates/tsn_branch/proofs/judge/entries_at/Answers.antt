@@ -1,6 +1,7 @@
 use Rattle.std.proofs.Common.{◌≡◌, ◌<◌, ◌≤◌, ℕ, List, length, get_or, map, All, Some, sym, ap, ◌∙◌, subst, arith}
 use Rattle.std.proofs.lemmas.List.{length-map}
 use Rattle.std.proofs.lemmas.Option.{slice_get-get_or}
+use Rattle.std.proofs.lemmas.Result.{err_from_is_err_and}
 use Rattle.tsn_model.specs.Network.{Network, IsWellFormed, HasFewStreams, stream_count}
 use Rattle.tsn_branch.specs.declared.loads.LinkTable.{LinkTable}
 use Rattle.tsn_branch.specs.Links.{shared_links}
@@ -68,3 +69,13 @@ returns-clause-shown c path solves =
     shown_by network path c.args.least.now solves link c.args.tables.right_conflicts.formed c.index-tables-link_index.result.link
     c.deref.result.now c.in_ok-entries_of.field-0
     (link_is network link (link_in c.index-tables-link_index.result) is) (c.deref.ensures.value ∙ users_are network link (link_in c.index-tables-link_index.result) is) c.in_ok-entries_of.ensures
+
+pub returns-in_err-entries_of-clause-link : goal.returns-in_err-entries_of-clause-link
+returns-in_err-entries_of-clause-link c =
+    let p = err_from_is_err_and c.from_residual.result c.from_residual.ensures.1 in
+    rw p.1 tt
+
+pub returns-in_err-entries_of-clause-shown : goal.returns-in_err-entries_of-clause-shown
+returns-in_err-entries_of-clause-shown c =
+    let p = err_from_is_err_and c.from_residual.result c.from_residual.ensures.1 in
+    rw p.1 tt

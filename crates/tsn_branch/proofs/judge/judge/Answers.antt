@@ -1,5 +1,7 @@
 use Rattle.std.proofs.Common.{◌<◌, List, None, length, ℕ, refl, sym, ◌∙◌, subst, arith}
 use Rattle.std.specs.Prelude.{option_copied}
+use Rattle.std.proofs.lemmas.Grind.{common_steps}
+use Rattle.std.proofs.lemmas.Result.{err_from_is_err_and}
 use Rattle.tsn_model.specs.declared.Triple.{Triple}
 use Rattle.tsn_model.specs.declared.Decision.{Decision}
 use Rattle.tsn_model.specs.Network.{Network}
@@ -79,3 +81,16 @@ returns-in_ok-chain_along-in-Positive-clause-look c =
     let refutes = subst (Answers (releases_of network) (arcs_of network path)) c.in-Positive.is answers in
     subst (λ (chain : List ℕ). IsRefutation network path c.args.aim.target (positive_cycle chain)) (sym c.in_ok-chain_along-in-Positive.ensures)
     (IsRefutation-from network path c.in-Positive.cycle.items refutes c.args.aim.target)
+
+pub chain_along-requires : goal.chain_along-requires
+chain_along-requires c = grind (arith, common_steps) steps 2000000
+
+pub returns-in_err-chain_along-in-Positive-clause-look : goal.returns-in_err-chain_along-in-Positive-clause-look
+returns-in_err-chain_along-in-Positive-clause-look c =
+    let p = err_from_is_err_and c.from_residual.result c.from_residual.ensures.1 in
+    rw p.1 tt
+
+pub returns-in_err-chain_along-in-Positive-clause-least : goal.returns-in_err-chain_along-in-Positive-clause-least
+returns-in_err-chain_along-in-Positive-clause-least c =
+    let p = err_from_is_err_and c.from_residual.result c.from_residual.ensures.1 in
+    rw p.1 tt

@@ -1,6 +1,7 @@
 use Rattle.std.proofs.Common.{◌<◌, ◌≤◌, List, length, ℕ, All, sym, ap, ◌∙◌, subst, arith}
 use Rattle.std.specs.Prelude.{option_copied, IfNone, IfSome}
-use Rattle.std.proofs.lemmas.Result.{IfOk-weaker}
+use Rattle.std.proofs.lemmas.Result.{IfOk-weaker, err_from_is_err_and}
+use Rattle.std.proofs.lemmas.Grind.{common_steps}
 use Rattle.tsn_branch.specs.Links.{shared_links, IsUnloaded}
 use Rattle.tsn_branch.specs.Loads.{IsFirstLoad, IsTightest}
 use Rattle.tsn_branch.specs.Ends.{AreEnds}
@@ -134,3 +135,16 @@ returns c =
     IfOk-weaker c.judge_untied.result _ _
     (λ judgement is path solves. is path c.args.aim.target (option_copied c.args.aim.best) solves (omega (arith, c.if-end-aim.false)) unloaded untied)
     c.judge_untied.ensures
+
+pub find_loads-requires-clause-loads : goal.find_loads-requires-clause-loads
+find_loads-requires-clause-loads c = grind (arith, common_steps) steps 2000000
+
+pub returns-in_err-chain_to-in-Overrun : goal.returns-in_err-chain_to-in-Overrun
+returns-in_err-chain_to-in-Overrun c =
+    let p = err_from_is_err_and c.from_residual.result c.from_residual.ensures.1 in
+    rw p.1 tt
+
+pub returns-in_err-chain_to : goal.returns-in_err-chain_to
+returns-in_err-chain_to c =
+    let p = err_from_is_err_and c.from_residual-in_err-chain_to.result c.from_residual-in_err-chain_to.ensures.1 in
+    rw p.1 tt

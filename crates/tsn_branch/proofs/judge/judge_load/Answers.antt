@@ -1,4 +1,6 @@
-use Rattle.std.proofs.Common.{◌≡◌, pos, ◌≤ℤ◌, ◌<ℤ◌, Some, sym, ◌∙◌, subst}
+use Rattle.std.proofs.Common.{◌≡◌, pos, ◌≤ℤ◌, ◌<ℤ◌, Some, sym, ◌∙◌, subst, arith}
+use Rattle.std.proofs.lemmas.Grind.{elements}
+use Rattle.std.proofs.lemmas.Result.{err_from_is_err_and}
 use Rattle.tsn_branch.specs.Links.{busy_by, load_by}
 use Rattle.tsn_branch.specs.Loads.{IsFirstLoad}
 use Rattle.tsn_branch.proofs.Leasts.{AreLeast-from}
@@ -39,3 +41,29 @@ returns-in_ok-link-in-Load-clause-look c path target solves fit below found best
       is.4,
       c.in_ok-link-in-Load.ensures.shown path solves,
     )
+
+pub entries_at-requires-clause-link_index : goal.entries_at-requires-clause-link_index
+entries_at-requires-clause-link_index c = grind (arith, elements) steps 2000000
+
+pub entries_at-requires-in-Load-clause-link_index : goal.entries_at-requires-in-Load-clause-link_index
+entries_at-requires-in-Load-clause-link_index c = grind (arith, elements) steps 2000000
+
+pub returns-in_err-link-in-Overload-clause-look : goal.returns-in_err-link-in-Overload-clause-look
+returns-in_err-link-in-Overload-clause-look c =
+    let p = err_from_is_err_and c.from_residual.result c.from_residual.ensures.1 in
+    rw p.1 tt
+
+pub returns-in_err-link-in-Overload-clause-closes : goal.returns-in_err-link-in-Overload-clause-closes
+returns-in_err-link-in-Overload-clause-closes c =
+    let p = err_from_is_err_and c.from_residual.result c.from_residual.ensures.1 in
+    rw p.1 tt
+
+pub returns-in_err-link-in-Load-clause-look : goal.returns-in_err-link-in-Load-clause-look
+returns-in_err-link-in-Load-clause-look c =
+    let p = err_from_is_err_and c.from_residual-in_err-link-in-Load.result c.from_residual-in_err-link-in-Load.ensures.1 in
+    rw p.1 tt
+
+pub returns-in_err-link-in-Load-clause-closes : goal.returns-in_err-link-in-Load-clause-closes
+returns-in_err-link-in-Load-clause-closes c =
+    let p = err_from_is_err_and c.from_residual-in_err-link-in-Load.result c.from_residual-in_err-link-in-Load.ensures.1 in
+    rw p.1 tt

@@ -1,4 +1,6 @@
-use Rattle.std.proofs.Common.{List, ℕ, subst}
+use Rattle.std.proofs.Common.{List, ℕ, subst, arith}
+use Rattle.std.proofs.lemmas.Grind.{common_steps}
+use Rattle.std.proofs.lemmas.Result.{err_from_is_err_and}
 use Rattle.tsn_model.specs.Schedule.{IsNotAfter}
 use Rattle.tsn_cert.specs.Leaf.{bound_leaf}
 use Rattle.tsn_branch.specs.Look.{ShowsUpto, IsPruning}
@@ -27,3 +29,31 @@ returns-in-Ok-clause-some c =
           c.in-Ok.bound (bound_leaf c.in-Ok.leaf)
           (subst (λ (limit : ℕ). IsPruning network path limit c.in-Ok.bound (bound_leaf c.in-Ok.leaf)) c.flowspan-2.ensures (c.in-Ok.ensures path solves)),
     )
+
+pub tie_chains-requires-clause-formed : goal.tie_chains-requires-clause-formed
+tie_chains-requires-clause-formed c = grind (arith, common_steps) steps 2000000
+
+pub tie_chains-requires-clause-some_path : goal.tie_chains-requires-clause-some_path
+tie_chains-requires-clause-some_path c = grind (arith, common_steps) steps 2000000
+
+pub returns-in_default-clause-some : goal.returns-in_default-clause-some
+returns-in_default-clause-some c = grind (arith, common_steps) steps 2000000
+
+pub tie_bound-requires-clause-some_path : goal.tie_bound-requires-clause-some_path
+tie_bound-requires-clause-some_path c = grind (arith, common_steps) steps 2000000
+
+pub tie_bound-requires-clause-ends : goal.tie_bound-requires-clause-ends
+tie_bound-requires-clause-ends c = grind (arith, common_steps) steps 2000000
+
+pub tie_bound-requires-clause-within : goal.tie_bound-requires-clause-within
+tie_bound-requires-clause-within c = grind (arith, common_steps) steps 2000000
+
+pub returns-in_err-chains-clause-none : goal.returns-in_err-chains-clause-none
+returns-in_err-chains-clause-none c =
+    let p = err_from_is_err_and c.from_residual.result c.from_residual.ensures.1 in
+    rw p.1 tt
+
+pub returns-in_err-chains-clause-some : goal.returns-in_err-chains-clause-some
+returns-in_err-chains-clause-some c =
+    let p = err_from_is_err_and c.from_residual.result c.from_residual.ensures.1 in
+    rw p.1 tt

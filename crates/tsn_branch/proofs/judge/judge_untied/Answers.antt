@@ -1,4 +1,5 @@
 use Rattle.std.proofs.Common.{◌≤◌, ◌<◌, List, length, ℕ, All, sym, subst, arith}
+use Rattle.std.proofs.lemmas.Grind.{common_steps}
 use Rattle.tsn_model.specs.declared.Triple.{Triple}
 use Rattle.tsn_model.specs.Schedule.{IsFirstOverlap}
 use Rattle.tsn_model.specs.Arcs.{conflicts_of}
@@ -60,3 +61,9 @@ returns c =
     let (fit, last, end) = c.requires.ends in
     solution_found network path lowest.offsets c.args.reach.end target best (outcome_of c.in_ok-look.look) below (AreLeast-from network path lowest solves) unloaded untied
     (subst (λ n. IsSolution network path n (outcome_of c.in_ok-look.look)) (sym end) (c.in_ok-look.ensures path solves))
+
+pub first_violated_from-requires-clause-count : goal.first_violated_from-requires-clause-count
+first_violated_from-requires-clause-count c = grind (arith, common_steps) steps 2000000
+
+pub solved-requires-clause-formed : goal.solved-requires-clause-formed
+solved-requires-clause-formed c = grind (arith, common_steps) steps 2000000

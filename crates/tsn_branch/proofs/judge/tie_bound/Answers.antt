@@ -1,6 +1,7 @@
 use Rattle.std.proofs.Common.{sym, ◌<◌, subst, arith}
 use Rattle.std.specs.Prelude.{IfNone, ◌≤◌}
 use Rattle.std.proofs.lemmas.Option.{slice_get_within}
+use Rattle.std.proofs.lemmas.Result.{err_from_is_err_and}
 use Rattle.tsn_branch.specs.Links.{shared_links}
 use Rattle.tsn_branch.specs.Loads.{IsFirstLoad, IsTightest}
 use Rattle.tsn_branch.proofs.Leasts.{count, short}
@@ -58,3 +59,13 @@ returns c =
     let is = subst (IsFirstLoad network lowest.offsets c.args.limit) c.in-Load.is first in
     load_pruning network path lowest solves c.args.limit c.in-Load.link_index c.in-Load.bound c.in_ok-link.link c.in_ok-link.entries fit
     (omega (arith, end, c.if-reach-limit.false)) is c.in_ok-link.ensures.link (c.in_ok-link.ensures.shown path solves)
+
+pub returns-in_err-chain_to : goal.returns-in_err-chain_to
+returns-in_err-chain_to c =
+    let p = err_from_is_err_and c.from_residual.result c.from_residual.ensures.1 in
+    rw p.1 tt
+
+pub returns-in_err-link : goal.returns-in_err-link
+returns-in_err-link c =
+    let p = err_from_is_err_and c.from_residual-in_err-link.result c.from_residual-in_err-link.ensures.1 in
+    rw p.1 tt

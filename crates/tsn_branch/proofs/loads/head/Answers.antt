@@ -1,4 +1,5 @@
 use Rattle.std.proofs.Common.{get_or, pos, ap, ◌∙◌, arith}
+use Rattle.std.proofs.lemmas.Grind.{common_steps}
 use Rattle.tsn_branch.specs.declared.loads.User.{User}
 use Rattle.tsn_branch.proofs.Loading.{head_first, head_more}
 use Rattle.tsn_branch.proofs.loads.head.Goals as goal
@@ -27,3 +28,6 @@ loop-index-preserved c =
       least_so_far = ap pos is ∙ head_more c.args.offsets.now c.args.users.now c.loop-index.index no_user c.loop-index.least (omega arith) below c.loop-index.invariant.least_so_far;
       early = omega arith;
     }
+
+pub returns-clause-value : goal.returns-clause-value
+returns-clause-value c = grind (arith, common_steps) steps 2000000

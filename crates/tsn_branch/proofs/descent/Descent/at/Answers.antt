@@ -1,5 +1,6 @@
-use Rattle.std.proofs.Common.{◌≡◌, ◌-◌, List, [], None, length, take, ap, ◌∙◌, subst}
+use Rattle.std.proofs.Common.{◌≡◌, ◌-◌, List, [], None, length, take, ap, ◌∙◌, subst, arith}
 use Rattle.std.specs.Prelude.{IfSome}
+use Rattle.std.proofs.lemmas.Grind.{pieces}
 use Rattle.tsn_model.specs.declared.Decision.{Decision}
 use Rattle.tsn_model.specs.Arcs.{arcs_of}
 use Rattle.tsn_diff.specs.Stack.{Stack}
@@ -19,3 +20,6 @@ returns-in-Ok-Some-clause-stands c =
     let empty : [] ≡ c.new.result.items = search in
     subst (λ points. Stands network (record { path = c.args.node; stack = stack; splits = points; found = None })) empty
     (stands_at network c.args.node stack None releases here)
+
+pub stack_above-requires-clause-fits : goal.stack_above-requires-clause-fits
+stack_above-requires-clause-fits c = search (pieces, arith) depth 5 fits 300

@@ -1,4 +1,5 @@
 use Rattle.std.proofs.Common.{pos, ◌<◌, ◌-◌, List, length, take, get_or, sym, ap, ◌∙◌, subst, arith}
+use Rattle.std.proofs.lemmas.Grind.{common_steps}
 use Rattle.tsn_model.specs.declared.Side.TheVariants.{Left}
 use Rattle.tsn_model.specs.declared.Decision.{Decision}
 use Rattle.std.proofs.lemmas.List.{get_or_default}
@@ -30,3 +31,6 @@ returns-then-depth-gt0-clause-stands c =
     let whole = by_last path last within (sym (get_or_default path (length path - 1) last none (omega arith))) in
     stands_back network path c.self.inside.stack c.pop.new.self c.self.inside.splits.items c.self.inside.found leads.releases leads.arcs leads.split_above (take (length path - 1) path) last.triple last.side whole
     c.pop.ensures.releases c.pop.ensures.arcs
+
+pub returns-else-depth-gt0-clause-stands : goal.returns-else-depth-gt0-clause-stands
+returns-else-depth-gt0-clause-stands c = grind (arith, common_steps) steps 2000000

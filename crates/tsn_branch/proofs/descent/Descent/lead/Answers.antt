@@ -1,5 +1,6 @@
 use Rattle.std.proofs.Common.{◌≡◌, ◌-◌, List, [], ◌∷◌, ◌++◌, length, take, Option, Result, Ok, Err, None, Some, sym, ap, ◌∙◌, subst, arith}
 use Rattle.std.proofs.lemmas.Option.{slice_get_within, get_or_from_slice_get}
+use Rattle.std.proofs.lemmas.Grind.{common_steps}
 use Rattle.tsn_model.specs.declared.Arc.{Arc}
 use Rattle.tsn_model.specs.declared.Decision.{Decision}
 use Rattle.tsn_model.specs.Arcs.{arcs_of}
@@ -76,3 +77,18 @@ returns-clause-led c =
           (refutes_down network front last.triple last.side c.self.inside.node c.self.inside.stack chain.items node here.releases here.arcs
           (subst (λ (a : Arc). Refutes (length c.self.inside.stack.least.releases) (c.self.inside.stack.least.arcs ++ a ∷ []) chain.items) arc closed)),
     ))
+
+pub same-self : goal.same-self
+same-self c = grind (arith, common_steps) steps 2000000
+
+pub returns-in_default-clause-path : goal.returns-in_default-clause-path
+returns-in_default-clause-path c = grind (arith, common_steps) steps 2000000
+
+pub returns-in_default-clause-led : goal.returns-in_default-clause-led
+returns-in_default-clause-led c = grind (arith, common_steps) steps 2000000
+
+pub returns-in_default-clause-err : goal.returns-in_default-clause-err
+returns-in_default-clause-err c = grind (arith, common_steps) steps 2000000
+
+pub push-requires : goal.push-requires
+push-requires c = grind (arith, common_steps) steps 2000000

@@ -1,5 +1,7 @@
-use Rattle.std.proofs.Common.{◌≡◌, ℕ, List, Option, None, MatchOption, sym, ◌∙◌, subst}
+use Rattle.std.proofs.Common.{◌≡◌, ℕ, List, Option, None, MatchOption, sym, ◌∙◌, subst, arith}
 use Rattle.std.specs.Prelude.{option_copied}
+use Rattle.std.proofs.lemmas.Grind.{common_steps}
+use Rattle.std.proofs.lemmas.Result.{err_from_is_err_and}
 use Rattle.tsn_model.specs.Certificate.{positive_cycle}
 use Rattle.tsn_model.specs.declared.Triple.{Triple}
 use Rattle.tsn_model.specs.Arcs.{conflicts_of}
@@ -77,3 +79,52 @@ returns-in-Ok-Split-clause-among c =
     subst (λ ts. SplitsAmong ts (split (triple_at c.triples.result.now c.in-Ok-Split.point.triple))) c.triples.ensures
     (SplitsAmong-from network c.args.self.now.path c.triples.result.now conflicts.formed (c.triples.ensures ∙ conflicts.triples) (split (triple_at c.triples.result.now c.in-Ok-Split.point.triple))
     (returns-in-Ok-Split-clause-undecided c))
+
+pub lead-requires-clause-conflicts : goal.lead-requires-clause-conflicts
+lead-requires-clause-conflicts c = grind (arith, common_steps) steps 2000000
+
+pub chain_along-requires : goal.chain_along-requires
+chain_along-requires c = grind (arith, common_steps) steps 2000000
+
+pub returns-in_err-cycle-clause-first_case : goal.returns-in_err-cycle-clause-first_case
+returns-in_err-cycle-clause-first_case c =
+    let p = err_from_is_err_and c.from_residual.result c.from_residual.ensures.1 in
+    rw p.1 tt
+
+pub returns-in_err-cycle-clause-proof : goal.returns-in_err-cycle-clause-proof
+returns-in_err-cycle-clause-proof c =
+    let p = err_from_is_err_and c.from_residual.result c.from_residual.ensures.1 in
+    rw p.1 tt
+
+pub returns-in_err-cycle-clause-undecided : goal.returns-in_err-cycle-clause-undecided
+returns-in_err-cycle-clause-undecided c =
+    let p = err_from_is_err_and c.from_residual.result c.from_residual.ensures.1 in
+    rw p.1 tt
+
+pub returns-in_err-cycle-clause-among : goal.returns-in_err-cycle-clause-among
+returns-in_err-cycle-clause-among c =
+    let p = err_from_is_err_and c.from_residual.result c.from_residual.ensures.1 in
+    rw p.1 tt
+
+pub returns-in_err-cycle-clause-met : goal.returns-in_err-cycle-clause-met
+returns-in_err-cycle-clause-met c =
+    let p = err_from_is_err_and c.from_residual.result c.from_residual.ensures.1 in
+    rw p.1 tt
+
+pub returns-in_err-cycle-clause-below : goal.returns-in_err-cycle-clause-below
+returns-in_err-cycle-clause-below c =
+    let p = err_from_is_err_and c.from_residual.result c.from_residual.ensures.1 in
+    rw p.1 tt
+
+pub returns-in_err-cycle-clause-ties : goal.returns-in_err-cycle-clause-ties
+returns-in_err-cycle-clause-ties c =
+    let p = err_from_is_err_and c.from_residual.result c.from_residual.ensures.1 in
+    rw p.1 tt
+
+pub returns-in_err-cycle-clause-after : goal.returns-in_err-cycle-clause-after
+returns-in_err-cycle-clause-after c =
+    let p = err_from_is_err_and c.from_residual.result c.from_residual.ensures.1 in
+    rw p.1 tt
+
+pub returns-in_err-cycle-clause-path : goal.returns-in_err-cycle-clause-path
+returns-in_err-cycle-clause-path c = c.in_err-cycle.ensures.path

@@ -1,6 +1,7 @@
 use Rattle.std.proofs.Common.{◌≡◌, ◌<◌, ◌-◌, ◌∷◌, [], length, take, sym, ap, ◌∙◌, subst, arith}
 use Rattle.std.specs.Prelude.{Contains}
 use Rattle.std.proofs.lemmas.List.Elements.{All-take}
+use Rattle.std.proofs.lemmas.Grind.{common_steps}
 use Rattle.tsn_model.specs.declared.Side.TheVariants.{Left, Right}
 use Rattle.tsn_model.specs.declared.Decision.{Decision}
 use Rattle.tsn_model.specs.Certificate.{decided}
@@ -76,3 +77,39 @@ returns-clause-none c =
     let empty : c.loop-side.self.path ≡ [] = ap (λ (position : Position). position.path) (sym c.self.view_is) ∙ c.in_default.ensures in
     let none = ap length empty in
     (sym c.loop-side.invariant.same, omega arith)
+
+pub same-self : goal.same-self
+same-self c = grind (arith, common_steps) steps 2000000
+
+pub returns-then-path-floor-clause-stands : goal.returns-then-path-floor-clause-stands
+returns-then-path-floor-clause-stands c = grind (arith, common_steps) steps 2000000
+
+pub returns-then-path-floor-clause-fits : goal.returns-then-path-floor-clause-fits
+returns-then-path-floor-clause-fits c = grind (arith, common_steps) steps 2000000
+
+pub returns-then-path-floor-clause-kept : goal.returns-then-path-floor-clause-kept
+returns-then-path-floor-clause-kept c = grind (arith, common_steps) steps 2000000
+
+pub returns-then-path-floor-clause-next : goal.returns-then-path-floor-clause-next
+returns-then-path-floor-clause-next c = grind (arith, common_steps) steps 2000000
+
+pub returns-in-Left-clause-none : goal.returns-in-Left-clause-none
+returns-in-Left-clause-none c = grind (arith, common_steps) steps 2000000
+
+pub same-self-in-Right : goal.same-self-in-Right
+same-self-in-Right c = grind (arith, common_steps) steps 2000000
+
+pub same-self-in_default : goal.same-self-in_default
+same-self-in_default c = grind (arith, common_steps) steps 2000000
+
+pub returns-clause-stands : goal.returns-clause-stands
+returns-clause-stands c = grind (arith, common_steps) steps 2000000
+
+pub returns-clause-fits : goal.returns-clause-fits
+returns-clause-fits c = grind (arith, common_steps) steps 2000000
+
+pub returns-clause-kept : goal.returns-clause-kept
+returns-clause-kept c = grind (arith, common_steps) steps 2000000
+
+pub returns-clause-next : goal.returns-clause-next
+returns-clause-next c = grind (arith, common_steps) steps 2000000

@@ -2,6 +2,7 @@ use Rattle.std.proofs.Common.{◌≡◌, ◌+◌, [], ◌∷◌, ◌++◌, ℤ, 
 use Rattle.std.proofs.lemmas.Bool.{eqb-false}
 use Rattle.std.specs.Int.{int_min}
 use Rattle.std.proofs.lemmas.Int.{ints, to_z-of_z}
+use Rattle.std.proofs.lemmas.Result.{err_from_is_err_and}
 use Rattle.tsn_model.specs.Timing.{separation, start_on, arrival}
 use Rattle.tsn_model.proofs.Routes.{hop_on_found, hop_on_link}
 use Rattle.tsn_branch.specs.Loads.{link_in}
@@ -51,3 +52,13 @@ returns-clause-put c =
           link_taken network link (link_in c.args.self.now) _ streams stream is refl users (ap (λ n. c.args.self.now.work + n) works)
           (λ none. absurd (some (omega (arith, none)))) (λ _. w.least-is ∙ to_z-of_z w64 w.min-least.result (omega (arith, ints)) ∙ w.min-least.ensures.value ∙ (λ k. int_min (kept k) (computed k)))
     ]
+
+pub returns-in_err-push-clause-put : goal.returns-in_err-push-clause-put
+returns-in_err-push-clause-put c =
+    let p = err_from_is_err_and c.from_residual.result c.from_residual.ensures.1 in
+    rw p.1 tt
+
+pub returns-in_err-push-clause-short : goal.returns-in_err-push-clause-short
+returns-in_err-push-clause-short c =
+    let p = err_from_is_err_and c.from_residual.result c.from_residual.ensures.1 in
+    rw p.1 tt
