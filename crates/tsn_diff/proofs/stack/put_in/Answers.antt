@@ -1,5 +1,6 @@
 use Rattle.std.proofs.Common.{Ok, length, pos, ap, arith}
 use Rattle.std.proofs.lemmas.List.Elements.{All-contains, Contains-push}
+use Rattle.std.proofs.lemmas.Result.{err_from_is_err_and}
 use Rattle.tsn_diff.specs.Labels.{labelling_of}
 use Rattle.tsn_diff.specs.Spread.{all_arcs}
 use Rattle.tsn_diff.specs.Limits.{IsArcAmong}
@@ -50,3 +51,28 @@ returns-clause-noted g c = c.in_ok-closing.ensures.noted
 
 pub returns-clause-wide : goal.returns-clause-wide
 returns-clause-wide g c = c.in_ok-closing.ensures.wide (ap Ok c.in_default.is)
+
+pub returns-in_err-closing-clause-wide : goal.returns-in_err-closing-clause-wide
+returns-in_err-closing-clause-wide g c =
+    let p = err_from_is_err_and c.from_residual.result c.from_residual.ensures.1 in
+    rw p.1 tt
+
+pub returns-in_err-closing-clause-arcs : goal.returns-in_err-closing-clause-arcs
+returns-in_err-closing-clause-arcs g c =
+    let p = err_from_is_err_and c.from_residual.result c.from_residual.ensures.1 in
+    rw p.1 tt
+
+pub returns-in_err-closing-clause-marks : goal.returns-in_err-closing-clause-marks
+returns-in_err-closing-clause-marks g c =
+    let p = err_from_is_err_and c.from_residual.result c.from_residual.ensures.1 in
+    rw p.1 tt
+
+pub returns-in_err-closing-clause-closed : goal.returns-in_err-closing-clause-closed
+returns-in_err-closing-clause-closed g c =
+    let p = err_from_is_err_and c.from_residual.result c.from_residual.ensures.1 in
+    rw p.1 tt
+
+pub returns-in_err-closing-clause-refused : goal.returns-in_err-closing-clause-refused
+returns-in_err-closing-clause-refused g c =
+    let p = err_from_is_err_and c.from_residual.result c.from_residual.ensures.1 in
+    rw p.1 tt

@@ -1,4 +1,5 @@
-use Rattle.std.proofs.Common.{ℕ, All, refl, sym, ◌∙◌, subst}
+use Rattle.std.proofs.Common.{ℕ, All, refl, sym, ◌∙◌, subst, arith}
+use Rattle.std.proofs.lemmas.Grind.{common_steps}
 use Rattle.tsn_diff.specs.Limits.{IsArcAmong}
 use Rattle.tsn_diff.specs.Labels.{labelling_of}
 use Rattle.tsn_diff.proofs.Rounds.{SoFar-none, SoFar-steady, SoFar-raised, SoFar-all}
@@ -47,3 +48,6 @@ returns c =
       raised = c.loop-index.invariant.raised;
       progress = SoFar-all c.args.arcs.now c.loop-index.index (labelling_of c.args.self.now) (labelling_of c.loop-index.self) c.loop-index.progress c.loop-index-test.false c.loop-index.invariant.progress;
     }
+
+pub returns-in-Closed-clause-forest : goal.returns-in-Closed-clause-forest
+returns-in-Closed-clause-forest c = grind (arith, common_steps) steps 2000000

@@ -2,6 +2,7 @@ use Rattle.std.proofs.Common.{◌+◌, ◌<◌, ◌≤◌, length, ⊎_elim, ari
 use Rattle.std.proofs.lemmas.Bool.{cases_lt}
 use Rattle.std.proofs.lemmas.List.{get_or_append_left, get_or_push, length_push}
 use Rattle.std.proofs.lemmas.List.Elements.{All-nil}
+use Rattle.std.proofs.lemmas.Result.{err_from_is_err_and}
 use Rattle.tsn_model.specs.declared.Arc.{Arc}
 use Rattle.tsn_diff.proofs.listing.Listing.new.Goals as goal
 
@@ -28,3 +29,13 @@ returns-clause-listing c =
       leaving = λ i d l. c.loop.invariant.none i d (omega arith);
       marks = rw c.new-2.ensures.items refl;
     }
+
+pub returns-in_err-leaving-clause-marks : goal.returns-in_err-leaving-clause-marks
+returns-in_err-leaving-clause-marks c =
+    let p = err_from_is_err_and c.from_residual.result c.from_residual.ensures.1 in
+    rw p.1 tt
+
+pub returns-in_err-leaving-clause-listing : goal.returns-in_err-leaving-clause-listing
+returns-in_err-leaving-clause-listing c =
+    let p = err_from_is_err_and c.from_residual.result c.from_residual.ensures.1 in
+    rw p.1 tt

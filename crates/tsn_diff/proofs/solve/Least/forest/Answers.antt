@@ -2,6 +2,7 @@ use Rattle.std.proofs.Common.{◌≡◌, ◌<◌, List, Option, [], map, sym, ap
 use Rattle.std.specs.List.{range_with_len}
 use Rattle.std.proofs.lemmas.List.{ext_get_or}
 use Rattle.std.proofs.lemmas.List.FromFn.{length-map-range_with_len, get_or-map-range_with_len}
+use Rattle.std.proofs.lemmas.Result.{err_from_is_err_and}
 use Rattle.tsn_diff.specs.declared.forest.Step.{Step}
 use Rattle.tsn_diff.specs.Labels.{labelling_of}
 use Rattle.tsn_diff.specs.Forest.{chain_by, least_by}
@@ -29,3 +30,8 @@ returns c =
     ∙ sym (chain_of-least_by c.self.inside.net c.self.inside.arcs.items labels i (omega (arith, low, within, c.self.invariant.forest.count)))
     ∙ sym (get_or-map-range_with_len (chain_of least) 0 c.args.count i i [] low (omega arith))) in
     rw (← c.self.view_is) (c.of.ensures ∙ ap (λ (last : List (Option Step)). map (chain_in last) (range_with_len 0 c.args.count)) copied ∙ each)
+
+pub returns-in_err-last : goal.returns-in_err-last
+returns-in_err-last c =
+    let p = err_from_is_err_and c.from_residual.result c.from_residual.ensures.1 in
+    rw p.1 tt

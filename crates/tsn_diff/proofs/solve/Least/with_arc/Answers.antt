@@ -1,5 +1,6 @@
 use Rattle.std.proofs.Common.{◌≡◌, List, [], ◌∷◌, ◌++◌, length, ap, ◌∙◌}
 use Rattle.std.proofs.lemmas.List.Elements.{All-push}
+use Rattle.std.proofs.lemmas.Result.{err_from_is_err_and}
 use Rattle.tsn_model.specs.declared.Arc.{Arc}
 use Rattle.tsn_diff.specs.Labels.{labelling_of}
 use Rattle.tsn_diff.specs.Limits.{IsArcAmong}
@@ -23,3 +24,8 @@ pub returns : goal.returns
 returns c =
     let all : c.in_ok-all.all.items ≡ c.self.inside.arcs.items ++ c.args.arc ∷ [] = c.in_ok-all.ensures ∙ ap (λ (arcs : List Arc). arcs ++ c.args.arc ∷ []) c.deref.ensures.value in
     rw (← c.self.view_is) (rw (c.in_ok-copied.ensures, all) at c.in_ok-settle.ensures)
+
+pub returns-in_err-all : goal.returns-in_err-all
+returns-in_err-all c =
+    let p = err_from_is_err_and c.from_residual.result c.from_residual.ensures.1 in
+    rw p.1 tt

@@ -1,4 +1,5 @@
 use Rattle.std.proofs.Common.{ℕ, List, length, replicate, None, sym, ◌∙◌, subst}
+use Rattle.std.proofs.lemmas.Result.{err_from_is_err_and}
 use Rattle.tsn_diff.specs.Forest.{IsRaised}
 use Rattle.tsn_diff.proofs.Solutions.{IsForest-unraised, IsRaised-unraised}
 use Rattle.tsn_diff.proofs.solve.Net.least.Goals as goal
@@ -17,3 +18,8 @@ settle-requires c =
 
 pub returns : goal.returns
 returns c = rw (c.in_ok-copied.ensures, c.in_ok-all.ensures.items) at c.in_ok-settle.ensures
+
+pub returns-in_err-all : goal.returns-in_err-all
+returns-in_err-all c =
+    let p = err_from_is_err_and c.from_residual.result c.from_residual.ensures.1 in
+    rw p.1 tt

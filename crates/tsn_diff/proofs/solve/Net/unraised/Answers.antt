@@ -1,4 +1,5 @@
 use Rattle.std.proofs.Common.{ℕ, List, [], length, replicate, None, ◌∙◌, subst}
+use Rattle.std.proofs.lemmas.Result.{err_from_is_err_and}
 use Rattle.tsn_diff.specs.Labels.{labelling_of}
 use Rattle.tsn_model.specs.declared.Arc.{Arc}
 use Rattle.tsn_diff.specs.Forest.{Settles, least_by, labelling_by}
@@ -23,3 +24,13 @@ returns-clause-settles c =
     let s = invariant_of-result c in
     let seen : Settles c.args.self c.new.result.items (labelling_by (least_by c.args.self c.new.result.items labels)) = rw (labelling_by-least_by c.args.self c.new.result.items labels s.forest) s in
     subst (λ (arcs : List Arc). Settles c.args.self arcs (labelling_by (least_by c.args.self c.new.result.items labels))) c.new.ensures.items seen
+
+pub returns-in_err-labels-clause-solves : goal.returns-in_err-labels-clause-solves
+returns-in_err-labels-clause-solves c =
+    let p = err_from_is_err_and c.from_residual.result c.from_residual.ensures.1 in
+    rw p.1 tt
+
+pub returns-in_err-labels-clause-settles : goal.returns-in_err-labels-clause-settles
+returns-in_err-labels-clause-settles c =
+    let p = err_from_is_err_and c.from_residual.result c.from_residual.ensures.1 in
+    rw p.1 tt

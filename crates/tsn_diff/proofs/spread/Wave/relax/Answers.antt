@@ -1,6 +1,7 @@
 use Rattle.std.proofs.Common.{◌≡◌, ◌<◌, ◌≤◌, Ok, pos, ap, ◌∙◌, ⊎_elim, arith}
 use Rattle.std.proofs.lemmas.Bool.{cases_lt}
 use Rattle.std.proofs.lemmas.List.{get_or_default}
+use Rattle.std.proofs.lemmas.Grind.{common_steps}
 use Rattle.tsn_diff.specs.declared.listing.Indexed.{Indexed}
 use Rattle.tsn_diff.specs.Labels.{labelling_of}
 use Rattle.tsn_diff.specs.Spread.{all_arcs, stage_of}
@@ -74,3 +75,15 @@ pub returns-clause-met : goal.returns-clause-met
 returns-clause-met g c =
     let items = leaving_is _ c.args.listing.now g.base.arcs c.args.stream c.index-leaving.result.now _ c.requires.listed c.requires.stream_in c.deref-indexed-items.ensures.value c.index-leaving.ensures in
     λ e. MeetsFrom-leaving g.base (labelling_of c.loop-indexed.labels) c.loop-indexed.stages c.loop-indexed.self c.args.stream c.loop-indexed.invariant.wave c.loop-indexed.invariant.settled (rw (← items) (λ k d l. c.loop-indexed.invariant.met k d (omega (arith, c.loop-indexed-test.false))))
+
+pub returns-clause-noted : goal.returns-clause-noted
+returns-clause-noted g c = grind (arith, common_steps) steps 2000000
+
+pub returns-clause-wave : goal.returns-clause-wave
+returns-clause-wave g c = grind (arith, common_steps) steps 2000000
+
+pub returns-clause-goes_on : goal.returns-clause-goes_on
+returns-clause-goes_on g c = grind (arith, common_steps) steps 2000000
+
+pub returns-clause-closing : goal.returns-clause-closing
+returns-clause-closing g c = grind (arith, common_steps) steps 2000000

@@ -1,4 +1,5 @@
 use Rattle.std.proofs.Common.{◌≡◌, Ok, length, ap, ◌∙◌, arith}
+use Rattle.std.proofs.lemmas.Grind.{common_steps, elements}
 use Rattle.tsn_diff.specs.declared.spread.Wave.{Wave}
 use Rattle.tsn_diff.proofs.Fixes.{AreCalm-replicate}
 use Rattle.tsn_diff.proofs.Forests.{all_small, HasSteps-from_forest, offsets_small}
@@ -77,3 +78,9 @@ loop-turn-preserved g c =
 
 pub returns-clause-wide : goal.returns-clause-wide
 returns-clause-wide g c = λ e. IsWide-end g.base _ c.loop-turn.stages c.loop-turn.self c.loop-turn.turn c.loop-turn.invariant.wave (omega (arith, c.loop-turn-test.false, c.len-in-loop-turn.ensures, c.loop-turn.self.queue.ok.0)) c.loop-turn.invariant.queued c.loop-turn.invariant.seen
+
+pub returns-in_default-clause-noted : goal.returns-in_default-clause-noted
+returns-in_default-clause-noted g c = grind (arith, common_steps) steps 2000000
+
+pub asked-requires-clause-arc : goal.asked-requires-clause-arc
+asked-requires-clause-arc g c = grind (arith, elements) steps 2000000

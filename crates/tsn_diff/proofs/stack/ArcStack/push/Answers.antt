@@ -1,4 +1,5 @@
-use Rattle.std.proofs.Common.{refl, ◌∙◌}
+use Rattle.std.proofs.Common.{refl, ◌∙◌, arith}
+use Rattle.std.proofs.lemmas.Grind.{common_steps}
 use Rattle.tsn_diff.specs.Labels.{labelling_of}
 use Rattle.tsn_diff.specs.Stack.{IsStack}
 use Rattle.tsn_diff.proofs.Solutions.{Solves-settled}
@@ -55,3 +56,9 @@ pub returns-in-Err-clause-solved : goal.returns-in-Err-clause-solved
 returns-in-Err-clause-solved c =
     let mark = c.len-mark.ensures ∙ c.self-inside.inside.0.1.1.0.trail.formers.ok.0 in
     Solves-back _ _ _ _ _ c.in-Err.ensures.err.0 (rw mark at c.put_back-in-Err.ensures.labels ∙ c.put_in.ensures.noted.back) c.self-inside.invariant
+
+pub put_back-requires-clause-mark : goal.put_back-requires-clause-mark
+put_back-requires-clause-mark c = grind (arith, common_steps) steps 2000000
+
+pub put_back-requires-in-Err-clause-mark : goal.put_back-requires-in-Err-clause-mark
+put_back-requires-in-Err-clause-mark c = grind (arith, common_steps) steps 2000000
