@@ -1,5 +1,6 @@
-use Rattle.std.proofs.Common.{◌≡◌, ◌<◌, ◌++◌, length, map, take, subst, ap, sym, ◌∙◌, rules}
+use Rattle.std.proofs.Common.{◌≡◌, ◌<◌, ◌++◌, length, map, take, subst, ap, sym, ◌∙◌, rules, arith}
 use Rattle.std.specs.Prelude.{All, OnOk, IfErr}
+use Rattle.std.proofs.lemmas.Grind.{elements}
 use Rattle.tsn_model.specs.Search.{tally_of}
 use Rattle.tsn_model.specs.Core.{IsAboveSeen}
 use Rattle.tsn_node.specs.Outcome.{outcome_of}
@@ -59,3 +60,15 @@ returns-clause-steps_of_some g c =
     let more : IfErr call.result (λ (r : WalkRefusal). after ≡ before ++ settlements_by old.standing.number (take r.settled events)) = search rules in
     settles_some names old new before after (lawful_of names call.new.self call.ensures.book call.ensures.lawful) call.result (λ (r : WalkRefusal). r.settled)
     (λ (r : WalkRefusal). r.settled < length c.args.looks) stands events outcomes (outcomes_below c.args.from.now outcomes) c.requires.seen more some
+
+pub settle_below-requires-clause-table : goal.settle_below-requires-clause-table
+settle_below-requires-clause-table c = grind (arith, elements) steps 2000000
+
+pub settle_below-requires-clause-share : goal.settle_below-requires-clause-share
+settle_below-requires-clause-share c = grind (arith, elements) steps 2000000
+
+pub settle_below-requires-clause-within : goal.settle_below-requires-clause-within
+settle_below-requires-clause-within c = grind (arith, elements) steps 2000000
+
+pub settle_below-requires-clause-proofs : goal.settle_below-requires-clause-proofs
+settle_below-requires-clause-proofs c = grind (arith, elements) steps 2000000

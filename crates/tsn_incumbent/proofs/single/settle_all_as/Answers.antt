@@ -1,6 +1,7 @@
-use Rattle.std.proofs.Common.{◌≡◌, ◌<◌, length, map, drop, subst, ap, sym, ◌∙◌}
+use Rattle.std.proofs.Common.{◌≡◌, ◌<◌, length, map, drop, subst, ap, sym, ◌∙◌, arith}
 use Rattle.std.specs.Prelude.{All}
 use Rattle.std.proofs.lemmas.List.Elements.{All-map}
+use Rattle.std.proofs.lemmas.Grind.{elements}
 use Rattle.tsn_model.specs.Search.{tally_of}
 use Rattle.tsn_model.specs.Core.{IsAboveSeen}
 use Rattle.tsn_node.specs.Outcome.{outcome_of}
@@ -28,3 +29,15 @@ returns-clause-fault g c =
     let mine = ap (λ n. tally_of names.race.network n c.settle_all.new.self.history) c.teller.invariant.numbered ∙ c.settle_all.ensures.agrees in
     refuses_at names (record { standing = head_of inside.seat.standings; tally = c.settle_all.new.share.tally }) c.settle_all.new.self c.settle_all.ensures.book c.settle_all.ensures.lawful mine
     c.settle_all.result (λ (r : BatchRefusal). r.settled) (λ (r : BatchRefusal). r.fault) (map event_of c.args.events.items) c.settle_all.ensures.fault
+
+pub settle_all-requires-clause-table : goal.settle_all-requires-clause-table
+settle_all-requires-clause-table c = grind (arith, elements) steps 2000000
+
+pub settle_all-requires-clause-share : goal.settle_all-requires-clause-share
+settle_all-requires-clause-share c = grind (arith, elements) steps 2000000
+
+pub settle_all-requires-clause-within : goal.settle_all-requires-clause-within
+settle_all-requires-clause-within c = grind (arith, elements) steps 2000000
+
+pub settle_all-requires-clause-proofs : goal.settle_all-requires-clause-proofs
+settle_all-requires-clause-proofs c = grind (arith, elements) steps 2000000

@@ -1,4 +1,5 @@
-use Rattle.std.proofs.Common.{ap, sym, subst, ◌∙◌}
+use Rattle.std.proofs.Common.{ap, sym, subst, ◌∙◌, arith}
+use Rattle.std.proofs.lemmas.Grind.{elements}
 use Rattle.tsn_model.specs.Search.{tally_of}
 use Rattle.tsn_model.specs.Core.{IsAboveSeen}
 use Rattle.tsn_node.specs.Outcome.{outcome_of}
@@ -23,3 +24,15 @@ returns-clause-fault g c =
     let mine = ap (λ n. tally_of names.race.network n c.settle.new.self.history) c.teller.invariant.numbered ∙ c.settle.ensures.agrees in
     refuses names (record { standing = head_of inside.seat.standings; tally = c.settle.new.share.tally }) c.settle.new.self c.settle.ensures.book c.settle.ensures.lawful mine
     c.settle.result (λ (r : EventRefusal). r.fault) (event_of c.args.event) c.settle.ensures.fault
+
+pub settle-requires-clause-table : goal.settle-requires-clause-table
+settle-requires-clause-table c = grind (arith, elements) steps 2000000
+
+pub settle-requires-clause-share : goal.settle-requires-clause-share
+settle-requires-clause-share c = grind (arith, elements) steps 2000000
+
+pub settle-requires-clause-within : goal.settle-requires-clause-within
+settle-requires-clause-within c = grind (arith, elements) steps 2000000
+
+pub settle-requires-clause-proof : goal.settle-requires-clause-proof
+settle-requires-clause-proof c = grind (arith, elements) steps 2000000

@@ -1,5 +1,6 @@
 use Rattle.std.proofs.Common.{◌≡◌, ◌<◌, length, rules, ap, ◌∙◌, subst, false, true, arith}
 use Rattle.std.specs.Prelude.{OnErr}
+use Rattle.std.proofs.lemmas.Grind.{elements}
 use Rattle.tsn_model.specs.Network.{Network}
 use Rattle.tsn_model.specs.Search.{Settlement, tally_of}
 use Rattle.tsn_incumbent.specs.Halves.{half}
@@ -46,3 +47,21 @@ returns-clause-refused g c =
     let is = c.set_in_place.ensures.first ∙ (λ i. half (c.requires.table i) ((c.requires.share i).number) false (tally i)) in
     subst (λ (p : Progress). OnErr call.result ((call.new.self ≡ p) × (c.set_in_place.new.first ≡ c.args.share.now))) c.self.view_is
     (share_refused call.result names before call.new.self c.args.owner.teller c.args.share.now c.set_in_place.new.first call.ensures.refused c.requires.share share is)
+
+pub settle-settled-requires-clause-teller : goal.settle-settled-requires-clause-teller
+settle-settled-requires-clause-teller c = grind (arith, elements) steps 2000000
+
+pub settle-settled-requires-clause-proof : goal.settle-settled-requires-clause-proof
+settle-settled-requires-clause-proof c = grind (arith, elements) steps 2000000
+
+pub tally-tally-requires : goal.tally-tally-requires
+tally-tally-requires c = grind (arith, elements) steps 2000000
+
+pub set_in_place-requires-clause-first : goal.set_in_place-requires-clause-first
+set_in_place-requires-clause-first c = grind (arith, elements) steps 2000000
+
+pub set_in_place-requires-clause-second : goal.set_in_place-requires-clause-second
+set_in_place-requires-clause-second c = grind (arith, elements) steps 2000000
+
+pub set_in_place-requires-clause-number : goal.set_in_place-requires-clause-number
+set_in_place-requires-clause-number c = grind (arith, elements) steps 2000000

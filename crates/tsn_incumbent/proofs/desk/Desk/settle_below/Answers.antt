@@ -1,4 +1,5 @@
 use Rattle.std.proofs.Common.{◌≡◌, ◌<◌, map, take, length, rules, ap, ◌∙◌, false, true, arith, refl}
+use Rattle.std.proofs.lemmas.Grind.{elements}
 use Rattle.tsn_model.specs.Network.{Network}
 use Rattle.tsn_model.specs.Search.{tally_of}
 use Rattle.tsn_node.specs.Outcome.{outcome_of}
@@ -61,3 +62,21 @@ returns-clause-some g c =
     let is = c.set_in_place.ensures.first ∙ (λ i. half (c.requires.table i) ((c.requires.share i).number) false (tally i)) in
     takes_some call.result (λ (r : WalkRefusal). r.settled) names before call.new.self k events more c.args.share.now c.set_in_place.new.first outcomes (outcomes_below c.args.from.now outcomes) share is
     (λ (r : WalkRefusal). r.settled < length c.args.looks) _ (λ (r : WalkRefusal). call.new.from ≡ path_after c.args.from.now (take r.settled outcomes)) call.ensures.some
+
+pub settle_below-settled-requires-clause-teller : goal.settle_below-settled-requires-clause-teller
+settle_below-settled-requires-clause-teller c = grind (arith, elements) steps 2000000
+
+pub settle_below-settled-requires-clause-proofs : goal.settle_below-settled-requires-clause-proofs
+settle_below-settled-requires-clause-proofs c = grind (arith, elements) steps 2000000
+
+pub tally-tally-requires : goal.tally-tally-requires
+tally-tally-requires c = grind (arith, elements) steps 2000000
+
+pub set_in_place-requires-clause-first : goal.set_in_place-requires-clause-first
+set_in_place-requires-clause-first c = grind (arith, elements) steps 2000000
+
+pub set_in_place-requires-clause-second : goal.set_in_place-requires-clause-second
+set_in_place-requires-clause-second c = grind (arith, elements) steps 2000000
+
+pub set_in_place-requires-clause-number : goal.set_in_place-requires-clause-number
+set_in_place-requires-clause-number c = grind (arith, elements) steps 2000000
