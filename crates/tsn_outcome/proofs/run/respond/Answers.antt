@@ -1,5 +1,6 @@
-use Rattle.std.proofs.Common.{rules, Err, inl, codes}
+use Rattle.std.proofs.Common.{rules, Err, inl, codes, arith}
 use Rattle.std.proofs.lemmas.List.Elements.{All-nil}
+use Rattle.std.proofs.lemmas.Grind.{elements}
 use Rattle.tsn_device.specs.declared.device.ReadFault.TheVariants.{TooLong, Memory}
 use Rattle.tsn_outcome.specs.Run.{IsUnwritten}
 use Rattle.tsn_outcome.specs.Outcome.{output_of}
@@ -25,3 +26,21 @@ returns-in-Err-Memory g c = record {
   beginning = λ failed. let line = text_beginning _ _ _ (codes "no memory\n") (search rules) (c.finish-in-Err-Memory.ensures.beginning (search rules)) in
       (search rules, (output_of (Err Memory), told_fault output_of c.args.answer.now Memory (search rules), inl (line.0, line.1, All-nil IsUnwritten)));
 }
+
+pub finish-requires-clause-few_failures : goal.finish-requires-clause-few_failures
+finish-requires-clause-few_failures c = grind (arith, elements) steps 2000000
+
+pub finish-requires-clause-not_device : goal.finish-requires-clause-not_device
+finish-requires-clause-not_device c = grind (arith, elements) steps 2000000
+
+pub finish-requires-in-Err-TooLong-clause-few_failures : goal.finish-requires-in-Err-TooLong-clause-few_failures
+finish-requires-in-Err-TooLong-clause-few_failures c = grind (arith, elements) steps 2000000
+
+pub finish-requires-in-Err-TooLong-clause-not_device : goal.finish-requires-in-Err-TooLong-clause-not_device
+finish-requires-in-Err-TooLong-clause-not_device c = grind (arith, elements) steps 2000000
+
+pub finish-requires-in-Err-Memory-clause-few_failures : goal.finish-requires-in-Err-Memory-clause-few_failures
+finish-requires-in-Err-Memory-clause-few_failures c = grind (arith, elements) steps 2000000
+
+pub finish-requires-in-Err-Memory-clause-not_device : goal.finish-requires-in-Err-Memory-clause-not_device
+finish-requires-in-Err-Memory-clause-not_device c = grind (arith, elements) steps 2000000
