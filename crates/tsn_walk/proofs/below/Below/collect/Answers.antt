@@ -1,4 +1,5 @@
 use Rattle.std.proofs.Common.{◌<◌, ◌+◌, ◌∷◌, [], List, MatchBool, map, length, refl, sym, ap, ◌∙◌, subst, arith, length-append}
+use Rattle.std.proofs.lemmas.Grind.{common_steps}
 use Rattle.tsn_node.specs.Outcome.{outcome_of}
 use Rattle.tsn_node.specs.declared.outcome.Look.{Look}
 use Rattle.tsn_book.specs.Below.{path_after}
@@ -54,3 +55,12 @@ loop-init c =
       collecting = subst (λ (looks : List Look). IsCollecting network triples c.args.incumbent.seen from looks way) (sym items) (collected_none network triples c.args.incumbent.seen from way c.requires.below);
       long = ap length items;
     }
+
+pub look_on-requires-clause-stands : goal.look_on-requires-clause-stands
+look_on-requires-clause-stands c = grind (arith, common_steps) steps 2000000
+
+pub returns-clause-from : goal.returns-clause-from
+returns-clause-from c = grind (arith, common_steps) steps 2000000
+
+pub returns-clause-goes_on : goal.returns-clause-goes_on
+returns-clause-goes_on c = grind (arith, common_steps) steps 2000000
