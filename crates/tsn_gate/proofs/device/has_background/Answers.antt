@@ -17,4 +17,5 @@ loop-entry-preserved c =
 
 pub returns : goal.returns
 returns c =
-    any_none (λ (entry : GateEntry). entry.octet == background_octet) c.args.entries.now c.loop-entry.entry-index _ c.loop-entry-test.false c.loop-entry.invariant
+    any_none (λ (entry : GateEntry). entry.octet == background_octet) c.args.entries.now c.loop-entry.entry-index _
+    c.loop-entry-test.false c.loop-entry.invariant

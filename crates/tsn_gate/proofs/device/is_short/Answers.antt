@@ -16,4 +16,5 @@ loop-entry-preserved c =
 
 pub returns : goal.returns
 returns c =
-    any_none (λ (entry : GateEntry). nat_lt entry.interval c.args.least) c.args.entries.now c.loop-entry.entry-index _ c.loop-entry-test.false c.loop-entry.invariant
+    any_none (λ (entry : GateEntry). nat_lt entry.interval c.args.least) c.args.entries.now c.loop-entry.entry-index _
+    c.loop-entry-test.false c.loop-entry.invariant

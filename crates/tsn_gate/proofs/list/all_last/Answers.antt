@@ -9,7 +9,8 @@ none = record { interval = 0; octet = 0 }
 pub loop-entry-preserved : goal.loop-entry-preserved
 unfolding none
 loop-entry-preserved c =
-    all_more (λ (entry : GateEntry). c.args.least ≤ entry.interval) c.args.entries.now c.loop-entry.entry-index none c.loop-entry-test.true c.loop-entry.invariant
+    all_more (λ (entry : GateEntry). c.args.least ≤ entry.interval) c.args.entries.now c.loop-entry.entry-index none
+    c.loop-entry-test.true c.loop-entry.invariant
     c.if-entry-least.false
 
 pub returns-then-entry-least : goal.returns-then-entry-least
@@ -20,6 +21,7 @@ returns-then-entry-least c =
 
 pub returns : goal.returns
 returns c = (
-  λ yes. all_done (λ (entry : GateEntry). c.args.least ≤ entry.interval) c.args.entries.now c.loop-entry.entry-index c.loop-entry-test.false c.loop-entry.invariant,
+  λ yes. all_done (λ (entry : GateEntry). c.args.least ≤ entry.interval) c.args.entries.now c.loop-entry.entry-index
+  c.loop-entry-test.false c.loop-entry.invariant,
   λ all. refl,
 )

@@ -13,4 +13,5 @@ loop-list-preserved c =
 pub returns : goal.returns
 returns c =
     c.loop-list.invariant
-    ∙ ap (λ lists. string_bytes c.args.text.now ++ flat_map (part_text c.args.problem.now) lists) (take_all c.loop-list.list-index c.args.lists.now c.loop-list-test.false)
+    ∙ ap (λ lists. string_bytes c.args.text.now ++ flat_map (part_text c.args.problem.now) lists)
+    (take_all c.loop-list.list-index c.args.lists.now c.loop-list-test.false)

@@ -15,7 +15,8 @@ all_late ports end (Some number) none first = absurd (none number refl)
 pub returns : goal.returns
 returns c =
     let state = c.loop-number.state in
-    ends_as_starts (setting_of c.args.self.now) state c.requires.setting c.loop-number.invariant (all_late state.ports state.end c.first.result c.in_default.not-Some c.first.ensures)
+    ends_as_starts (setting_of c.args.self.now) state c.requires.setting c.loop-number.invariant
+    (all_late state.ports state.end c.first.result c.in_default.not-Some c.first.ensures)
 
 pub step-requires-clause-state : goal.step-requires-clause-state
 step-requires-clause-state c = c.loop-number.invariant
