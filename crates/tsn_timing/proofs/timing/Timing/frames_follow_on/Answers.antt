@@ -1,4 +1,5 @@
-use Rattle.std.proofs.Common.{All, AllPairs, sym, subst}
+use Rattle.std.proofs.Common.{All, AllPairs, sym, subst, arith}
+use Rattle.std.proofs.lemmas.Grind.{common_steps}
 use Rattle.tsn_timing.specs.Neighbours.{IsBefore}
 use Rattle.tsn_timing.proofs.Neighbouring.{IsInOrder, sorted, apart_from_following}
 use Rattle.tsn_timing.proofs.timing.Timing.frames_follow_on.Goals as goal
@@ -16,3 +17,6 @@ returns c =
     c.sort_unstable_by_key.ensures.permutation c.in-Ok.ensures in
     apart_from_following c.args.self.now c.args.offsets.now c.args.link c.sort_unstable_by_key.new.self.items are
     (subst (AllPairs IsBefore) c.deref.ensures.value (c.each_before_next.ensures yes))
+
+pub push_slots-requires-clause-empty : goal.push_slots-requires-clause-empty
+push_slots-requires-clause-empty c = grind (arith, common_steps) steps 2000000

@@ -1,4 +1,5 @@
 use Rattle.std.proofs.Common.{◌<◌, ◌≤◌, arith}
+use Rattle.std.proofs.lemmas.Grind.{common_steps}
 use Rattle.tsn_model.specs.Network.{burst_of, period_of}
 use Rattle.tsn_timing.proofs.Sending.{Sends-counted, sent_at, placed}
 use Rattle.tsn_timing.proofs.timing.Timing.is_shift.Goals as goal
@@ -21,3 +22,6 @@ returns c =
     let lasts : 1 ≤ period_of c.args.self.now c.args.stream = omega arith in
     let frame = placed c.args.self.now c.args.stream c.args.shift lasts sent in
     c.loop-place.invariant.none frame.0 (omega arith) frame.2
+
+pub loop-place-preserved : goal.loop-place-preserved
+loop-place-preserved c = grind (arith, common_steps) steps 2000000
