@@ -1,4 +1,5 @@
 use Rattle.std.proofs.Common.{arith}
+use Rattle.std.proofs.lemmas.Grind.{common_steps}
 use Rattle.tsn_conflict.proofs.ByStream.{apart_with}
 use Rattle.tsn_conflict.proofs.sharing.Conflicts.meeting_with.Goals as goal
 
@@ -19,3 +20,6 @@ pub returns-then-number-end-clause-apart : goal.returns-then-number-end-clause-a
 returns-then-number-end-clause-apart c =
     apart_with c.args.self.now.triples c.args.stream c.args.self.now.uses c.args.offsets.now c.numbers_with-number-items.result.now c.loop-number.number-index c.args.end
     c.numbers_with-number-items.ensures c.requires.end (λ inside. c.if-number-end.true) c.loop-number.invariant
+
+pub returns-then-number-end-clause-at_most : goal.returns-then-number-end-clause-at_most
+returns-then-number-end-clause-at_most c = grind (arith, common_steps) steps 2000000
