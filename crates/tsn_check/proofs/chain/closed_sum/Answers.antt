@@ -1,4 +1,5 @@
 use Rattle.std.proofs.Common.{arith, ◌-◌, pos}
+use Rattle.std.proofs.lemmas.Grind.{common_steps}
 use Rattle.tsn_model.specs.declared.Side.TheVariants.{Left}
 use Rattle.tsn_check.specs.declared.path.Turn.{Turn}
 use Rattle.tsn_check.proofs.Chains.{arc_at-arcs, closed_parts}
@@ -17,3 +18,6 @@ returns-in_err-walk c = grind (arith, blank, arc_at-arcs, closed_parts)
 pub returns-else-walk-end : goal.returns-else-walk-end
 unfolding blank
 returns-else-walk-end c closed = grind (arith, blank, arc_at-arcs, closed_parts)
+
+pub returns-then-last-path : goal.returns-then-last-path
+returns-then-last-path c = grind (arith, common_steps) steps 2000000

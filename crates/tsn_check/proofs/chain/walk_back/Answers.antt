@@ -1,5 +1,6 @@
 use Rattle.std.proofs.Common.{◌≡◌, ◌<◌, ◌-◌, ◌+◌, length, slice_index_or, pos, sym, ap, ◌∙◌, subst, arith}
 use Rattle.std.proofs.lemmas.Int.{ints}
+use Rattle.std.proofs.lemmas.Grind.{common_steps}
 use Rattle.tsn_model.specs.declared.Side.TheVariants.{Left}
 use Rattle.tsn_model.specs.Arcs.{arc_at}
 use Rattle.tsn_check.specs.declared.path.Turn.{Turn}
@@ -62,3 +63,6 @@ pub returns : goal.returns
 returns c =
     let whole = all_walked (arcs c.args.path.now) c.args.chain.now c.loop-number.number c.loop-number.walk.start c.args.end c.loop-number.walk.sum (omega arith) c.loop-number.invariant.walked in
     record { is_chain = whole.0; begins = whole.1; adds = whole.2; low = omega (arith, ints); high = omega (arith, ints) }
+
+pub returns-then-depth-path : goal.returns-then-depth-path
+returns-then-depth-path c = grind (arith, common_steps) steps 2000000

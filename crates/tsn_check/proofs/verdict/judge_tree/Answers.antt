@@ -1,5 +1,6 @@
-use Rattle.std.proofs.Common.{inl, inr, ◌∙◌, sym, subst}
+use Rattle.std.proofs.Common.{inl, inr, ◌∙◌, sym, subst, arith}
 use Rattle.std.proofs.lemmas.Result.{err_from_is_err_and}
+use Rattle.std.proofs.lemmas.Grind.{common_steps}
 use Rattle.tsn_check.specs.Plans.{IsPlanRight}
 use Rattle.tsn_check.proofs.Plans.{claim_refutes}
 use Rattle.tsn_check.proofs.Verdicts.{checked, shown_optimal, shown_first, shown_none, tree_fault_first, why_refutes}
@@ -63,3 +64,12 @@ returns-clause-no_schedule c is =
     shown_none c.args.problem.now.network c.timing-timing.result.now c.args.plan.now c.args.cert.now c.target_of-wanted.result c.timing-timing.ensures
     c.target_of-wanted.ensures
     certifies (sym c.verdict_on.ensures ∙ cc is)
+
+pub returns-then-stated-wanted-clause-accepted : goal.returns-then-stated-wanted-clause-accepted
+returns-then-stated-wanted-clause-accepted c = grind (arith, common_steps) steps 2000000
+
+pub returns-then-stated-wanted-clause-verdict : goal.returns-then-stated-wanted-clause-verdict
+returns-then-stated-wanted-clause-verdict c = grind (arith, common_steps) steps 2000000
+
+pub check_nodes-requires : goal.check_nodes-requires
+check_nodes-requires c = grind (arith, common_steps) steps 2000000
