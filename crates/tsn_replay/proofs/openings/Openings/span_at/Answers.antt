@@ -1,6 +1,7 @@
 use Rattle.std.proofs.Common.{◌≡◌, ◌%◌, ◌<◌, get_or, ap, ◌∙◌, subst, arith}
 use Rattle.std.proofs.Math.Nat.{mod-lt}
 use Rattle.std.proofs.lemmas.List.{get_or_default}
+use Rattle.std.proofs.lemmas.Grind.{common_steps}
 use Rattle.tsn_model.specs.declared.GateEntry.{GateEntry}
 use Rattle.tsn_model.specs.Gates.{cycle_of}
 use Rattle.tsn_model.specs.Bridge.{LinkGates}
@@ -56,3 +57,6 @@ returns-clause-octet c u since until =
     let long : c.index.result.now.interval ≡ (get_or c.args.self.now.entries c.entry_at-index.result c.index.result.now).interval = ap (λ (e : GateEntry). e.interval) item in
     let phase : c.args.at % c.self.inside.cycle ≡ c.args.at % cycle_of c.args.self.now.entries = ap (λ n. c.args.at % n) size in
     span_octet c.args.self.now.entries c.entry_at-index.result c.index.result.now c.args.at u at.within item (omega arith) (omega arith) since (omega arith)
+
+pub overflow_sub-result : goal.overflow_sub-result
+overflow_sub-result c = grind (arith, common_steps) steps 2000000
