@@ -1,5 +1,5 @@
 -- Rows whose last parts are taken by a function of their own.
-use Rattle.std.proofs.Common.{◌≡◌, ℕ, List, Option, Some, None, refl, ap, ◌∙◌}
+use Rattle.std.proofs.Common.{◌≡◌, List, Option, Some, None, refl}
 use Rattle.std.specs.Prelude.{option_and_then, option_map}
 use Rattle.json.specs.Token.{Token}
 use Rattle.json.specs.Json.{Parse, parse_map, after_end_array}

@@ -2,7 +2,7 @@
 use Rattle.std.proofs.Common.{◌≡◌, ◌≢◌, ℕ, List, Bool, true, false, Option, Some, None, Ok, Err, codes, refl, sym, ap, ◌∙◌, subst, string_bytes, String, Global}
 use Rattle.std.specs.Prelude.{option_and_then, is_some, is_none, unwrap_or, ◌==◌}
 use Rattle.serde_json.specs.Data.{Data, null, boolean, number, string, array, object}
-use Rattle.serde_json.specs.Find.{get, as_object}
+use Rattle.serde_json.specs.Find.{get}
 use Rattle.tsn_model.specs.Certificate.{Node}
 use Rattle.tsn_cert.specs.Json.{when, whole_number, is_object_of}
 use Rattle.tsn_cert.specs.Fault.{named, FaultGiven}
@@ -74,23 +74,11 @@ when_gone : {A : Type 0} (b : Bool) (o : Option A) → o ≡ None → when b o �
 when_gone true o e = e
 when_gone false o e = refl
 
--- what is no object has no count of members
-no_count : (n : ℕ) (d : Data) → as_object d ≡ None → is_object_of n d ≡ false
-no_count n null e = refl
-no_count n (boolean b) e = refl
-no_count n (number k) e = refl
-no_count n (string s) e = refl
-no_count n (array ds) e = refl
-no_count n (object ms) e = absurd (cc)
-
 behind_two : {A B C : Type 0} (o : Option A) (p : Option B) → option_and_then (λ x. option_and_then {U = C} (λ y. None) p) o ≡ None
 behind_two None p = refl
 behind_two (Some x) p = behind_none p
 
 -- ---- trees
-
-pub tree_no_object : (d : Data) → as_object d ≡ None → cert_of d ≡ None
-tree_no_object d e = when_off (is_object_of 3 d) _ (no_count 3 d e)
 
 pub tree_other_count : (d : Data) → is_object_of 3 d ≡ false → cert_of d ≡ None
 tree_other_count d e = when_off (is_object_of 3 d) _ e
@@ -100,12 +88,6 @@ tree_no_format d e = when_gone (is_object_of 3 d) _ (rw e refl)
 
 pub tree_format_told : (d : Data) → IsObject d → get (codes "format") d ≡ None → IsTreeMisfit d (misfit.Missing key.Format)
 tree_format_told d is e = (is, rw e refl)
-
-pub tree_other_format : (d f : Data) → get (codes "format") d ≡ Some f → format_of f ≡ None → cert_of d ≡ None
-tree_other_format d f e none = when_gone (is_object_of 3 d) _ (rw (e, none) (behind_two (get (codes "nodes") d) (get (codes "target") d)))
-
-pub tree_other_told : (d f : Data) → get (codes "format") d ≡ Some f → format_of f ≡ None → IsTreeMisfit d misfit.OtherFormat
-tree_other_told d f e none = (ap is_some e, ap (λ o. format_of (unwrap_or o null)) e ∙ none)
 
 -- the format is there
 format_there : (o : Option Data) → is_some (format_of (unwrap_or o null)) ≡ true → is_none o ≡ false
@@ -211,9 +193,6 @@ tree_why d format n t k r is read h =
     why_up (λ m g. nodes_up d format (is.0, is.1, target) m (subst (λ v. IsNodesMisfit format v m) same g)) r h
 
 -- ---- arguments
-
-pub argument_no_object : (d : Data) → as_object d ≡ None → argument_of d ≡ None
-argument_no_object d e = when_off (is_object_of 4 d) _ (no_count 4 d e)
 
 pub argument_other_count : (d : Data) → is_object_of 4 d ≡ false → argument_of d ≡ None
 argument_other_count d e = when_off (is_object_of 4 d) _ e

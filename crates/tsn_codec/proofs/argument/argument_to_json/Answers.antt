@@ -2,7 +2,7 @@ use Rattle.std.proofs.Common.{◌≡◌, ◌∙◌, ap, map, subst, Some, codes}
 use Rattle.serde_json.specs.Data.{object, string, member, no_members}
 use Rattle.serde_json.specs.View.{view}
 use Rattle.serde_json.specs.Written.{has_float}
-use Rattle.tsn_cert.specs.Argument.{argument_format, argument_of, argument_value, goal_word, step_value, steps_in, steps_value}
+use Rattle.tsn_cert.specs.Argument.{argument_format, argument_value, goal_word, step_value, steps_in, steps_value}
 use Rattle.tsn_cert.specs.Json.{array_value, file_text, number_value}
 use Rattle.tsn_cert.proofs.ArgumentLemmas.{argument_back, argument_written}
 use Rattle.tsn_codec.proofs.ArgumentParts.{argument_in-printed}
