@@ -1,5 +1,6 @@
 use Rattle.std.proofs.Common.{map, take, sym, ap, ◌∙◌, arith}
 use Rattle.std.proofs.lemmas.List.{length-map}
+use Rattle.std.proofs.lemmas.Grind.{elements}
 use Rattle.tsn_node.specs.Outcome.{outcome_of}
 use Rattle.tsn_incumbent.specs.Teller.{Known}
 use Rattle.tsn_worker.proofs.BatchTellers.{only_last_solved, solved_least, unsolved_all, few_unsolved}
@@ -29,3 +30,12 @@ returns-clause-even g c =
     ap (λ (t : Known). t.tally.solved) is
     ∙ unsolved_all (take n outcomes) old.tally (few_unsolved g.K.Named.names.race.network old.standing.seen outcomes c.args.batch.solved c.requires.batch.ends n (omega (arith, low, long)))
     ∙ c.requires.even ∙ sym (ap (λ (t : Known). t.standing.posted) is)
+
+pub settle_below_as-requires-clause-count : goal.settle_below_as-requires-clause-count
+settle_below_as-requires-clause-count c = grind (arith, elements) steps 2000000
+
+pub settle_below_as-requires-clause-proofs : goal.settle_below_as-requires-clause-proofs
+settle_below_as-requires-clause-proofs c = grind (arith, elements) steps 2000000
+
+pub settle_below_as-requires-clause-seen : goal.settle_below_as-requires-clause-seen
+settle_below_as-requires-clause-seen c = grind (arith, elements) steps 2000000
