@@ -1,4 +1,5 @@
 use Rattle.std.proofs.Common.{◌∙◌, sym, ap, arith}
+use Rattle.std.proofs.lemmas.Grind.{common_steps}
 use Rattle.tsn_model.specs.declared.Link.{Link}
 use Rattle.tsn_model.specs.Network.{link_at, route_of}
 use Rattle.tsn_listeners.proofs.Ending.{found_on, none_on}
@@ -19,3 +20,6 @@ returns c =
     let done = c.loop-hop.auto.hop-end in
     let last = c.loop-hop.invariant.last in
     sym (none_on network (route_of network c.args.stream) c.args.node c.loop-hop.hop (omega arith) c.loop-hop.invariant.so_far)
+
+pub loop-hop-preserved : goal.loop-hop-preserved
+loop-hop-preserved c = grind (arith, common_steps) steps 2000000
