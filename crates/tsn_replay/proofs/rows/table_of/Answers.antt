@@ -1,5 +1,6 @@
 use Rattle.std.proofs.Common.{◌≡◌, ◌+◌, ◌*◌, ◌≤◌, Some, slice_set, get_or, take, refl, sym, ap, ◌∙◌, subst, arith, mul-le-mul}
 use Rattle.std.proofs.lemmas.Grind.{common_steps}
+use Rattle.std.proofs.lemmas.List.{take_all}
 use Rattle.tsn_replay.specs.Frames.{frames_below, frames_of}
 use Rattle.tsn_replay.proofs.Counting.{cells-few}
 use Rattle.tsn_replay.specs.Rows.{cell_of, IsTable}
@@ -54,3 +55,14 @@ loop-started-init c =
 
 pub cell-cell-requires-clause-spaced : goal.cell-cell-requires-clause-spaced
 cell-cell-requires-clause-spaced c = c.requires.spaced
+
+pub cell-cell-requires-clause-firsts : goal.cell-cell-requires-clause-firsts
+cell-cell-requires-clause-firsts c = c.requires.firsts
+
+pub cell-cell-requires-clause-wide : goal.cell-cell-requires-clause-wide
+cell-cell-requires-clause-wide c = c.requires.wide
+
+pub returns : goal.returns
+returns c =
+    subst (λ starts. IsTable c.args.timing.now c.args.width c.args.cycles starts c.loop-started.table.items)
+    (take_all c.loop-started.started-index c.args.starts.now c.loop-started-test.false) c.loop-started.invariant.table
