@@ -33,7 +33,7 @@ named_ok fault (Some y) x e = cc
 
 -- ---- a whole file's answer
 
-answer_read : {D A : Type 0} (grammar : D → Option A) (fits : A → Bool) (o : Option D) (d : D) (x : A)
+pub answer_read : {D A : Type 0} (grammar : D → Option A) (fits : A → Bool) (o : Option D) (d : D) (x : A)
     → named NotJson o ≡ Ok d → named WrongShape (grammar d) ≡ Ok x → answer grammar fits o ≡ shaped fits (Some x)
 answer_read grammar fits o d x e h =
     ap (answer grammar fits) (named_ok NotJson o d e) ∙ ap (shaped fits) (named_ok WrongShape (grammar d) x h)

@@ -32,6 +32,15 @@ module _ {A : Type 0} (grammar : Data → Option A) (IsOther : Data → Misfit �
   misfit_told d (NumberTooLarge e) is h = absurd h
   misfit_told d Memory is h = tt
 
+-- what is above its limit in what is said is told
+pub large_told : {A B : Type 0} (grammar : Data → Option A) (IsOther : Data → Misfit → Type 0) (Exceeds : A → Excess → Type 0) (bytes : List ℕ) (d : Data)
+    (said : A) (r : Result B Refused) → named fault.NotJson (value_of bytes) ≡ Ok d → named fault.WrongShape (grammar d) ≡ Ok said
+    → IfErr r (λ refused. (e : Excess) × (refused ≡ NumberTooLarge e) × Exceeds said e) → IfErr r (IsToldOf grammar IsOther Exceeds bytes)
+large_told grammar IsOther Exceeds bytes d said (Ok x) is read h = h
+large_told grammar IsOther Exceeds bytes d said (Err r) is read h =
+    subst (IsToldOf grammar IsOther Exceeds bytes) (sym h.1)
+    (d, said, named_ok fault.NotJson (value_of bytes) d is, named_ok fault.WrongShape (grammar d) said read, h.2)
+
 four_not_three : (o : Option Members) → unwrap_or (option_map (λ ms. member_count ms == 4) o) false ≡ true
     → unwrap_or (option_map (λ ms. member_count ms == 3) o) false ≡ false
 four_not_three None h = refl
