@@ -22,6 +22,6 @@ returns-then-entry-least c =
 pub returns : goal.returns
 returns c = (
   λ yes. all_done (λ (entry : GateEntry). c.args.least ≤ entry.interval) c.args.entries.now c.loop-entry.entry-index
-  c.loop-entry-test.false c.loop-entry.invariant,
+      c.loop-entry-test.false c.loop-entry.invariant,
   λ all. refl,
 )

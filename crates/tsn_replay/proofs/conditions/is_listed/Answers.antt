@@ -20,5 +20,5 @@ returns-then-link c =
 pub returns : goal.returns
 returns c =
     let none = all_done (λ (list : LinkGates). list.link ≢ c.args.link) c.args.lists.now c.loop-list.list-index
-        c.loop-list-test.false c.loop-list.invariant.so_far in
+    c.loop-list-test.false c.loop-list.invariant.so_far in
     (λ yes. absurd (cc yes), λ listed. absurd (none listed.0 listed.1 listed.2 (ap (λ (list : LinkGates). list.link) listed.3 ∙ listed.4)))
