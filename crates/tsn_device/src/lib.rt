@@ -3,7 +3,6 @@
 
 pub mod device;
 pub mod failure;
-pub mod memory;
 mod place;
 mod reader;
 pub mod run;

@@ -4,8 +4,8 @@
 --     Holds, IsOpened, IsFresh      devices before a command runs
 use Rattle.std.specs.Prelude.{◌≡◌, ℕ, List, [], ◌∷◌, Option, None, Some, if◌then◌else◌, string_bytes, codes}
 use Rattle.std.specs.Str.{bytes_eq}
-use Rattle.tsn_device.specs.declared.memory.MemorySource.{MemorySource}
-use Rattle.tsn_device.specs.declared.memory.MemorySink.{MemorySink}
+use Rattle.tsn_memory.specs.declared.devices.MemorySource.{MemorySource}
+use Rattle.tsn_memory.specs.declared.devices.MemorySink.{MemorySink}
 use Rattle.tsn_rows.specs.declared.folder.File.{File}
 
 -- what the first file of this name holds, where there is one

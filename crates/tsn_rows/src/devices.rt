@@ -6,8 +6,8 @@ use crate::folder::Folder;
 use std::alloc::Global;
 use std::io::{Error, ErrorKind};
 use tsn_device::device::{Broken, Sink, Source};
-use tsn_device::memory::{MemorySink, MemorySource, NEVER};
 use tsn_device::{Action, Failure};
+use tsn_memory::{MemorySink, MemorySource, NEVER};
 use tsn_outcome::{Given, Made, Opened};
 
 // The file that stands for standard input, which the network `-` is read from.

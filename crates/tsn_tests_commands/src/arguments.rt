@@ -2,7 +2,7 @@
 
 use std::process::Abort;
 use tsn_cli::valid_run;
-use tsn_device::memory::{MemorySink, MemorySource, NEVER};
+use tsn_memory::{MemorySink, MemorySource, NEVER};
 use tsn_networks::TWO;
 use tsn_words::{Words, WordsFault, words_from};
 

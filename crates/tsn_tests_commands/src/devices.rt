@@ -4,7 +4,7 @@ ghost use Rattle.std.specs.Prelude.{◌<◌, ◌≤◌};
 
 use std::process::Abort;
 use tsn_device::device::{PIECE, ReadFault, read_all};
-use tsn_device::memory::{EndlessSource, MemorySource, NEVER};
+use tsn_memory::{EndlessSource, MemorySource, NEVER};
 
 /// The bytes are read whole, in such pieces, where they fit into the limit.
 fn reads(rt: &(impl Abort + AllocGlobal), bytes: &[u8], piece: usize, limit: usize, fits: bool)

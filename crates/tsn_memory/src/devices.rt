@@ -1,8 +1,8 @@
-//! Sources and sinks in memory, for tests: they move a piece at a time, and fail at one call.
+//! What gives and keeps bytes in memory.
 ghost use Rattle.std.specs.Prelude.{◌≡◌, ◌≤◌, ◌<◌, [], length, Some, take, nat_le, false, replicate};
 
-use crate::device::{Broken, Sink, Source};
 use std::alloc::Global;
+use tsn_device::device::{Broken, Sink, Source};
 
 /// So many good calls that none fails.
 pub const NEVER: u64 = u64::MAX;
