@@ -2,7 +2,7 @@
 use Rattle.std.proofs.Common.{rules, true, false, ◌≡◌, inl, inr, ℕ, List, [], ◌∷◌, Option, Some, Result, Ok, Err, refl, sym, ap, ◌∙◌}
 use Rattle.std.proofs.lemmas.Option.{none-some, same_Some}
 use Rattle.tsn_net.specs.File.{States, HasFault}
-use Rattle.tsn_fault.specs.declared.fault.NetFault.{NetFault}
+use Rattle.tsn_model.specs.declared.fault.NetFault.{NetFault}
 use Rattle.tsn_timing.specs.Problem.{NamedNetwork}
 use Rattle.tsn_net.specs.Conditions.{fault_of}
 use Rattle.tsn_cert.specs.declared.fault.FileFault.{FileFault}

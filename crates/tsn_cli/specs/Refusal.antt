@@ -1,6 +1,6 @@
 -- Why a file is refused: a network, a plan.
 use Rattle.std.specs.Prelude.{◌≡◌, ℕ, List, Err}
-use Rattle.tsn_fault.specs.declared.fault.NetFault.{NetFault}
+use Rattle.tsn_model.specs.declared.fault.NetFault.{NetFault}
 use Rattle.tsn_net.specs.File.{HasFault}
 use Rattle.tsn_cert.specs.declared.fault.FileFault.{FileFault}
 use Rattle.tsn_cert.specs.Plan.{plan_in}

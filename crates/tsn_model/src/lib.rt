@@ -4,11 +4,13 @@
 #![tactic(auto)]
 
 pub mod bounds;
+mod fault;
 pub mod laws;
 pub mod plain;
 pub mod search_laws;
 pub mod tolerance;
 
+pub use fault::{Code, NetFault, Place};
 use std::alloc::AllocError;
 use thiserror::Error;
 

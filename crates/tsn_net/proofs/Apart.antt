@@ -14,7 +14,7 @@ use Rattle.toml.specs.Data.{Data, table, no_members}
 use Rattle.toml.specs.View.{view}
 use Rattle.toml.specs.declared.value.Value.{Value}
 use Rattle.tsn_net.specs.declared.schema.Key.TheVariants as key
-use Rattle.tsn_fault.specs.declared.fault.Code.TheVariants.{NotToml, DuplicateName, DuplicateCable, BadSlack}
+use Rattle.tsn_model.specs.declared.fault.Code.TheVariants.{NotToml, DuplicateName, DuplicateCable, BadSlack}
 use Rattle.tsn_net.specs.Document.{Document, text_at}
 use Rattle.tsn_net.specs.Conditions.{holds, first_place, conditions, duplicate_name, duplicate_cable, joins, delay_over, is_quick}
 use Rattle.tsn_net.specs.Problem.{HasDistinctNames}

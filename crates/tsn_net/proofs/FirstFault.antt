@@ -5,14 +5,14 @@ use Rattle.std.specs.Option.{option_or}
 use Rattle.std.proofs.Math.Nat.{eq-or-lt_of_le}
 use Rattle.std.proofs.lemmas.Bool.{false≢true, cases_lt}
 use Rattle.std.proofs.lemmas.Option.{same_Some}
-use Rattle.tsn_fault.specs.declared.fault.Code.{Code}
-use Rattle.tsn_fault.specs.declared.fault.Code.TheVariants.{NotToml, MissingKey, WrongKind, UnknownKey, Limit, DuplicateName, UnknownName, BadRate, DuplicateCable, BadRoute, NoCable, NoStream, Memory, BadPeriod, BadSlack}
-use Rattle.tsn_fault.specs.declared.fault.Place.{Place}
-use Rattle.tsn_fault.specs.declared.fault.Place.TheVariants.{Text, Top, Node, Cable, Stream}
-use Rattle.tsn_fault.specs.declared.fault.NetFault.{NetFault}
+use Rattle.tsn_model.specs.declared.fault.Code.{Code}
+use Rattle.tsn_model.specs.declared.fault.Code.TheVariants.{NotToml, MissingKey, WrongKind, UnknownKey, Limit, DuplicateName, UnknownName, BadRate, DuplicateCable, BadRoute, NoCable, NoStream, Memory, BadPeriod, BadSlack}
+use Rattle.tsn_model.specs.declared.fault.Place.{Place}
+use Rattle.tsn_model.specs.declared.fault.Place.TheVariants.{Text, Top, Node, Cable, Stream}
+use Rattle.tsn_model.specs.declared.fault.NetFault.{NetFault}
 use Rattle.tsn_net.specs.Document.{Document, node_places, cable_places, stream_places}
 use Rattle.tsn_net.specs.Conditions.{holds, first_place, least_fault, conditions, fault_of}
-use Rattle.tsn_fault.specs.Fault.{code_number}
+use Rattle.tsn_model.specs.Fault.{code_number}
 use Rattle.tsn_net.specs.Laws.{IsIn, IsBefore, IsFirstFault, kind_order, place_number, FaultsAreFirst, FaultlessIsClear}
 use Rattle.tsn_net.proofs.Faultless.{IsClear, IsClear-from_none, least_none, map_none, find_none-range}
 use Rattle.tsn_net.proofs.PlaceLemmas.{first_place-in_turn}

@@ -15,8 +15,8 @@ use Rattle.tsn_net.specs.declared.schema.Table.{Table}
 use Rattle.tsn_net.specs.declared.schema.Table.TheVariants as tables
 use Rattle.tsn_net.specs.Schema.{name_of, required, known, is_table, holds_at, has_kind, member_keys, keys_in, misses_key, has_wrong_kind, has_unknown_key}
 use Rattle.tsn_net.specs.Document.{Document, text_at, table_at, value_at}
-use Rattle.tsn_fault.specs.declared.fault.Code.TheVariants.{Limit}
-use Rattle.tsn_fault.specs.declared.fault.Place.{Place}
+use Rattle.tsn_model.specs.declared.fault.Code.TheVariants.{Limit}
+use Rattle.tsn_model.specs.declared.fault.Place.{Place}
 use Rattle.tsn_net.specs.declared.matter.Matter.{Matter}
 use Rattle.tsn_net.specs.declared.matter.Matter.TheVariants as matter
 use Rattle.tsn_net.specs.Conditions.{is_name, routes_of, node_breaks_limit, cable_breaks_limit, stream_breaks_limit, routes_break_limit, is_no_way}

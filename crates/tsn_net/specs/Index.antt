@@ -9,8 +9,8 @@ use Rattle.std.specs.List.{list_any}
 use Rattle.toml.specs.Data.{Data, table, no_members}
 use Rattle.tsn_model.specs.declared.Link.{Link}
 use Rattle.tsn_net.specs.declared.schema.Key.TheVariants as key
-use Rattle.tsn_fault.specs.declared.fault.Code.{Code}
-use Rattle.tsn_fault.specs.declared.fault.Code.TheVariants.{BadSlack}
+use Rattle.tsn_model.specs.declared.fault.Code.{Code}
+use Rattle.tsn_model.specs.declared.fault.Code.TheVariants.{BadSlack}
 use Rattle.tsn_net.specs.Document.{Document, text_at}
 use Rattle.tsn_net.specs.Problem.{HasDistinctNames}
 use Rattle.tsn_net.specs.Conditions.{joins, names_station, names_bridge}

@@ -6,10 +6,10 @@ use Rattle.toml.specs.Data.{Data}
 use Rattle.tsn_model.specs.Network.{Network, IsRoute, route_of}
 use Rattle.tsn_model.specs.Unions.{union_of}
 use Rattle.tsn_net.specs.Branches.{IsWay}
-use Rattle.tsn_fault.specs.declared.fault.Place.{Place}
-use Rattle.tsn_fault.specs.declared.fault.Place.TheVariants.{Text, Top, Node, Cable, Stream}
-use Rattle.tsn_fault.specs.declared.fault.Code.{Code}
-use Rattle.tsn_fault.specs.declared.fault.NetFault.{NetFault}
+use Rattle.tsn_model.specs.declared.fault.Place.{Place}
+use Rattle.tsn_model.specs.declared.fault.Place.TheVariants.{Text, Top, Node, Cable, Stream}
+use Rattle.tsn_model.specs.declared.fault.Code.{Code}
+use Rattle.tsn_model.specs.declared.fault.NetFault.{NetFault}
 use Rattle.tsn_net.specs.declared.matter.Matter.{Matter}
 use Rattle.tsn_net.specs.declared.matter.Matter.TheVariants as matter
 use Rattle.tsn_net.specs.declared.conditions.Amiss.{Amiss}
@@ -18,7 +18,7 @@ use Rattle.tsn_net.specs.Schema.{has_routes, elements_at}
 use Rattle.tsn_net.specs.Document.{Document, value_at, text_of}
 use Rattle.tsn_net.specs.DocumentView.{texts_view, step_view}
 use Rattle.tsn_net.specs.Conditions.{holds, fault_of, steps_of, different, other_talker, second_entry}
-use Rattle.tsn_fault.specs.Fault.{code_number}
+use Rattle.tsn_model.specs.Fault.{code_number}
 use Rattle.tsn_net.specs.Matter.{FindsFault}
 use Rattle.tsn_net.specs.File.{States}
 use Rattle.tsn_model.specs.Schedule.{IsValid}

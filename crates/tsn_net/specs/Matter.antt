@@ -6,11 +6,11 @@ use Rattle.std.specs.Prelude.{◌≡◌, ℕ, ℤ, pos, ◌+◌, ◌-◌, ◌<�
 use Rattle.std.specs.List.{list_any, find, range_with_len}
 use Rattle.std.specs.Str.{bytes_eq}
 use Rattle.toml.specs.Data.{Data, get}
-use Rattle.tsn_fault.specs.declared.fault.Place.{Place}
-use Rattle.tsn_fault.specs.declared.fault.Place.TheVariants.{Top, Node, Cable, Stream}
-use Rattle.tsn_fault.specs.declared.fault.Code.{Code}
-use Rattle.tsn_fault.specs.declared.fault.Code.TheVariants as code
-use Rattle.tsn_fault.specs.declared.fault.NetFault.{NetFault}
+use Rattle.tsn_model.specs.declared.fault.Place.{Place}
+use Rattle.tsn_model.specs.declared.fault.Place.TheVariants.{Top, Node, Cable, Stream}
+use Rattle.tsn_model.specs.declared.fault.Code.{Code}
+use Rattle.tsn_model.specs.declared.fault.Code.TheVariants as code
+use Rattle.tsn_model.specs.declared.fault.NetFault.{NetFault}
 use Rattle.tsn_net.specs.declared.schema.Key.{Key}
 use Rattle.tsn_net.specs.declared.schema.Key.TheVariants as key
 use Rattle.tsn_net.specs.declared.schema.Table.{Table}

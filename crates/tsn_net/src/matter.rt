@@ -5,7 +5,7 @@ ghost use Rattle.std.specs.Prelude.{◌≡◌};
 use crate::schema::Key;
 use crate::steps::Step;
 use toml::Value;
-use tsn_fault::Code;
+use tsn_model::Code;
 
 /// An end of a route.
 #[derive(Clone, Copy)]

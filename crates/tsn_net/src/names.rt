@@ -13,7 +13,7 @@ use crate::matter::Matter;
 use crate::routes::routes_of;
 use crate::schema::Key;
 use toml::Value;
-use tsn_fault::{Code, Place};
+use tsn_model::{Code, Place};
 
 impl<'a> Document<'a> {
     #[tactic(auto, unfolding(crate::specs::Conditions::duplicate_name, crate::specs::Conditions::holds))]

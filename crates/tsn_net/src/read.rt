@@ -15,7 +15,7 @@ use crate::problem::problem_of;
 use crate::words::{not_toml_words, words_of};
 use std::alloc::Global;
 use toml::{Table, Value};
-use tsn_fault::{Code, NetFault, Place};
+use tsn_model::{Code, NetFault, Place};
 use tsn_timing::Problem;
 
 /// Reads a network file. A fault is the least condition that holds, at the first place where it holds; want of memory

@@ -16,7 +16,7 @@ use crate::schema::{Key, has_routes};
 use crate::steps::{Step, given_again, other_talker, second_entry, talker_of};
 use std::slice;
 use toml::Value;
-use tsn_fault::{Code, Place};
+use tsn_model::{Code, Place};
 
 impl<'a> Document<'a> {
     #[tactic(auto, unfolding(crate::specs::Conditions::bad_route, crate::specs::Conditions::holds))]

@@ -16,7 +16,7 @@ use crate::routes::routes_of;
 use crate::schema::{Key, Table, absent_key, amiss_key, other_key};
 use crate::steps::different_steps;
 use toml::Value;
-use tsn_fault::{Code, Place};
+use tsn_model::{Code, Place};
 
 impl<'a> Document<'a> {
     #[tactic(auto, unfolding(crate::specs::Conditions::missing_key, crate::specs::Conditions::holds))]

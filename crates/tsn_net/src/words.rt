@@ -7,7 +7,7 @@ use crate::schema::Key;
 use crate::steps::Step;
 use crate::tables::is_name;
 use std::alloc::Global;
-use tsn_fault::Place;
+use tsn_model::Place;
 use tsn_text::TextBuilder;
 use tsn_text::pieces::{push_count, push_name, push_number, push_signed};
 

@@ -10,7 +10,7 @@ use Rattle.std.specs.Ordering.{int_eq}
 use Rattle.std.specs.Fmt.{signed_decimal}
 use Rattle.tsn_model.specs.declared.Violation.{Violation}
 use Rattle.tsn_model.specs.declared.Violation.TheVariants.{WrongCount, PastCycle, Overlap, Early, TooLate}
-use Rattle.tsn_fault.specs.Fault.{code_text, fault_text, place_text}
+use Rattle.tsn_model.specs.Fault.{code_text, fault_text, place_text}
 use Rattle.tsn_cert.specs.Fault as file
 use Rattle.tsn_check.specs.Numbers.{number_of, node_of}
 use Rattle.tsn_outcome.specs.declared.stop.Stop.{Stop}

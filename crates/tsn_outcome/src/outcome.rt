@@ -8,8 +8,7 @@ use std::alloc::Global;
 use std::fmt;
 use tsn_cert::FileFault;
 use tsn_check::CheckFault;
-use tsn_fault::NetFault;
-use tsn_model::{NoMemory, Triple, Violation};
+use tsn_model::{NetFault, NoMemory, Triple, Violation};
 
 /// The kind of a file that is refused.
 #[derive(Clone, Copy)]

@@ -7,8 +7,7 @@ use crate::{Answer, FileKind, Outcome};
 use std::alloc::Global;
 use tsn_cert::{FileFault, Refused};
 use tsn_check::CheckFault;
-use tsn_fault::{Code, NetFault};
-use tsn_model::NoMemory;
+use tsn_model::{Code, NetFault, NoMemory};
 use tsn_reason::file_line;
 
 /// What is said of a network file with this fault, for this reason.

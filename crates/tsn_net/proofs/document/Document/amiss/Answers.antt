@@ -1,6 +1,6 @@
 use Rattle.std.proofs.Common.{◌≡◌, Some, None, get_or, option_map, ap, sym, ◌∙◌}
 use borrow.Author.Count.{below_more}
-use Rattle.tsn_fault.specs.declared.fault.Code.TheVariants.{NotToml}
+use Rattle.tsn_model.specs.declared.fault.Code.TheVariants.{NotToml}
 use Rattle.tsn_net.specs.DocumentView.{document_view}
 use Rattle.tsn_net.specs.Conditions.{conditions, first_place}
 use Rattle.tsn_net.proofs.Apart.{apart_at}

@@ -1,5 +1,5 @@
 use Rattle.std.proofs.Common.{◌≡◌, ℕ, ◌<◌, drop, get_or, None}
-use Rattle.tsn_fault.specs.declared.fault.Code.TheVariants.{NotToml}
+use Rattle.tsn_model.specs.declared.fault.Code.TheVariants.{NotToml}
 use Rattle.tsn_net.specs.DocumentView.{document_view}
 use Rattle.tsn_net.specs.Conditions.{conditions, first_place, least_fault, fault_of}
 use Rattle.tsn_net.proofs.document.Document.amiss.Given as goal

@@ -1,7 +1,7 @@
 use Rattle.std.proofs.Common.{◌≡◌, true, false, Option, Some, None, ℕ, List, refl, ap, sym, ◌∙◌, subst}
 use Rattle.std.specs.Prelude.{is_some}
 use Rattle.std.specs.List.{list_any}
-use Rattle.tsn_fault.specs.declared.fault.Place.{Place}
+use Rattle.tsn_model.specs.declared.fault.Place.{Place}
 use Rattle.tsn_net.specs.declared.schema.Key.TheVariants as key
 use Rattle.tsn_net.specs.Document.{value_at, number_at}
 use Rattle.tsn_net.specs.DocumentView.{document_view, routes_view, step_view, one_step_view}

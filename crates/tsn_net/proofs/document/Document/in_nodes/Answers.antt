@@ -2,7 +2,7 @@ use Rattle.std.proofs.Common.{◌<◌, length, ap, sym, ◌∙◌}
 use Rattle.std.specs.Prelude.{is_some}
 use Rattle.std.proofs.lemmas.List.{length-map}
 use Rattle.toml.specs.View.{view}
-use Rattle.tsn_fault.specs.declared.fault.Place.TheVariants.{Node}
+use Rattle.tsn_model.specs.declared.fault.Place.TheVariants.{Node}
 use Rattle.tsn_net.specs.DocumentView.{document_view}
 use Rattle.tsn_net.specs.Conditions.{holds}
 use Rattle.tsn_net.proofs.PlaceLemmas.{find-here, find-range}

@@ -1,6 +1,6 @@
 use Rattle.std.proofs.Common.{◌≡◌, ◌-◌, map, length}
 use Rattle.std.specs.List.{find, range_with_len}
-use Rattle.tsn_fault.specs.declared.fault.Place.TheVariants.{Node}
+use Rattle.tsn_model.specs.declared.fault.Place.TheVariants.{Node}
 use Rattle.tsn_net.specs.DocumentView.{document_view}
 use Rattle.tsn_net.specs.Conditions.{holds}
 use Rattle.tsn_net.specs.Document.{node_places}

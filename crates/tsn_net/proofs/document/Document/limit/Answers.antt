@@ -1,8 +1,8 @@
 use Rattle.std.proofs.Common.{◌≡◌, sym, ◌∙◌, subst}
 use Rattle.std.specs.Prelude.{IfSome, is_some}
-use Rattle.tsn_fault.specs.declared.fault.Code.TheVariants as code
-use Rattle.tsn_fault.specs.declared.fault.Place.{Place}
-use Rattle.tsn_fault.specs.declared.fault.Place.TheVariants.{Cable}
+use Rattle.tsn_model.specs.declared.fault.Code.TheVariants as code
+use Rattle.tsn_model.specs.declared.fault.Place.{Place}
+use Rattle.tsn_model.specs.declared.fault.Place.TheVariants.{Cable}
 use Rattle.tsn_net.specs.declared.schema.Table.TheVariants as tables
 use Rattle.tsn_net.specs.Document.{value_at}
 use Rattle.tsn_net.specs.DocumentView.{document_view}

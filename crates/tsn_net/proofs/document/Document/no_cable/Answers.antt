@@ -1,7 +1,7 @@
 use Rattle.std.proofs.Common.{◌≡◌, true, false, not, Some, None, refl, ap, sym, ◌∙◌, subst}
 use Rattle.std.specs.Prelude.{is_some}
 use Rattle.std.specs.List.{list_all}
-use Rattle.tsn_fault.specs.declared.fault.Place.{Place}
+use Rattle.tsn_model.specs.declared.fault.Place.{Place}
 use Rattle.tsn_net.specs.Document.{value_at}
 use Rattle.tsn_net.specs.DocumentView.{document_view, routes_view, step_view, one_step_view}
 use Rattle.tsn_net.specs.Conditions.{holds, no_cable, routes_of, steps_of, has_cable}

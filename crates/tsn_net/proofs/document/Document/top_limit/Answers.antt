@@ -1,7 +1,7 @@
 use Rattle.std.proofs.Common.{◌≡◌, ◌||◌, Bool, true, length, sym, ap, ◌∙◌, subst}
 use Rattle.std.specs.Prelude.{IfSome, is_some, nat_lt, sum_by}
-use Rattle.tsn_fault.specs.declared.fault.Code.TheVariants as code
-use Rattle.tsn_fault.specs.declared.fault.Place.TheVariants.{Top}
+use Rattle.tsn_model.specs.declared.fault.Code.TheVariants as code
+use Rattle.tsn_model.specs.declared.fault.Place.TheVariants.{Top}
 use Rattle.tsn_net.specs.declared.schema.Key.TheVariants as key
 use Rattle.tsn_net.specs.declared.schema.Table.TheVariants as tables
 use Rattle.tsn_net.specs.Document.{number_at}

@@ -1,6 +1,6 @@
 use Rattle.std.proofs.Common.{◌≡◌, true, not, Some, refl, ap, sym, ◌∙◌, subst}
 use Rattle.std.specs.List.{find, list_all}
-use Rattle.tsn_fault.specs.declared.fault.Place.{Place}
+use Rattle.tsn_model.specs.declared.fault.Place.{Place}
 use Rattle.tsn_net.specs.Document.{value_at}
 use Rattle.tsn_net.specs.DocumentView.{document_view, routes_view}
 use Rattle.tsn_net.specs.Conditions.{holds, unknown_name, has_name, routes_of, names_along}

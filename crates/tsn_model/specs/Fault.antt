@@ -1,10 +1,10 @@
 -- How a fault is printed.
 use Rattle.std.specs.Prelude.{ℕ, List, ◌++◌, codes, decimal}
-use Rattle.tsn_fault.specs.declared.fault.Place.{Place}
-use Rattle.tsn_fault.specs.declared.fault.Place.TheVariants.{Text, Top, Node, Cable, Stream}
-use Rattle.tsn_fault.specs.declared.fault.Code.{Code}
-use Rattle.tsn_fault.specs.declared.fault.Code.TheVariants.{NotToml, MissingKey, WrongKind, UnknownKey, Limit, DuplicateName, UnknownName, BadRate, DuplicateCable, BadRoute, NoCable, NoStream, Memory, BadPeriod, BadSlack}
-use Rattle.tsn_fault.specs.declared.fault.NetFault.{NetFault}
+use Rattle.tsn_model.specs.declared.fault.Place.{Place}
+use Rattle.tsn_model.specs.declared.fault.Place.TheVariants.{Text, Top, Node, Cable, Stream}
+use Rattle.tsn_model.specs.declared.fault.Code.{Code}
+use Rattle.tsn_model.specs.declared.fault.Code.TheVariants.{NotToml, MissingKey, WrongKind, UnknownKey, Limit, DuplicateName, UnknownName, BadRate, DuplicateCable, BadRoute, NoCable, NoStream, Memory, BadPeriod, BadSlack}
+use Rattle.tsn_model.specs.declared.fault.NetFault.{NetFault}
 
 -- the codes count from 1
 abbrev pub code_number : Code → ℕ
