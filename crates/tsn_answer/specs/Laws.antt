@@ -1,4 +1,4 @@
--- The law of answers, the contract of a function in `src/laws.rt`.
+-- The law of answers, the contract of a function in `tsn_laws/src/answers.rt`.
 use Rattle.std.specs.Prelude.{◌≡◌, ℕ}
 use Rattle.tsn_model.specs.Network.{Network}
 use Rattle.tsn_cert.specs.declared.plan.Plan.{Plan}

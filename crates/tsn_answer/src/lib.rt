@@ -7,9 +7,7 @@ pub mod effort;
 pub mod found;
 pub mod hearer;
 pub mod known;
-pub mod laws;
 pub mod proof;
-pub mod proof_laws;
 pub mod proving;
 
 pub use answer::Answer;

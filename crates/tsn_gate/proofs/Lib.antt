@@ -12,8 +12,5 @@ pub mod Tables
 pub mod Unique
 pub mod Rooms
 pub mod Widening
-pub mod UniqueMerged
-pub mod Sparing
 pub mod SingleFrames
-pub mod SmallGates
 pub mod Exchanges

@@ -1,4 +1,4 @@
--- The laws of the lists that a schedule asks for, and of merged ones, each the contract of a function in `src/laws.rt`.
+-- The laws of the lists that a schedule asks for, and of merged ones, each the contract of a function in `tsn_laws/src/gates.rt`.
 use Rattle.std.specs.Prelude.{◌≡◌, ℕ, ◌+◌, ◌*◌, ◌≤◌, ◌<◌, List, length, take, slice_index_or, Option}
 use Rattle.tsn_model.specs.declared.GateEntry.{GateEntry}
 use Rattle.tsn_model.specs.Network.{Network}

@@ -7,7 +7,6 @@ pub mod fault;
 pub mod format;
 pub mod json;
 mod kept;
-pub mod laws;
 pub mod list;
 pub mod lists;
 pub mod merged;

@@ -12,7 +12,6 @@ mod share;
 pub mod shared;
 pub mod single;
 mod standing;
-pub mod steps;
 pub mod teller;
 
 pub use desk::Counts;
@@ -23,9 +22,6 @@ pub use names::Named;
 pub use parts::Parts;
 pub use shared::{Shared, best_as, observe_as, post_as, settle_below_as};
 pub use single::{settle_all_as, settle_and_post, settle_as, with_book};
-pub use steps::{
-    observing_is_a_step, posting_is_a_step, settling_all_is_steps, settling_is_a_step,
-};
 pub use teller::Teller;
 pub use tsn_model::Tally;
 pub use tsn_timing::NoMemory;

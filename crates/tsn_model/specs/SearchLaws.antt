@@ -1,4 +1,4 @@
--- The laws of the search, each the contract of a function in `src/search_laws.rt`.
+-- The laws of the search, each the contract of a function in `tsn_laws/src/search.rt`.
 use Rattle.std.specs.Prelude.{◌≡◌, ◌≢◌, ℕ, ◌+◌, ◌-◌, ◌^◌, ◌≤◌, ◌<◌, ◌⊎◌, ◌↔◌, List, [], ◌∷◌, ◌++◌, map, length, true, MatchOption, sum_by, Option, Some, All, AllPairs, Contains, IsPermutation}
 use Rattle.tsn_model.specs.declared.Triple.{Triple}
 use Rattle.std.specs.List.{range_with_len}

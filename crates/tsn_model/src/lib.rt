@@ -1,13 +1,10 @@
-//! The definitions that every crate of the planner speaks of (`specs/`), and the small plain types that they name; laws of them (`laws`),
-//! and laws of the search (`search_laws`): what every legal history and every run of the shared search keeps, and what a finished search
-//! shows.
+//! The definitions that every crate of the planner speaks of (`specs/`), and the small plain types that they name. The laws of the
+//! definitions stand in `tsn_laws`.
 #![tactic(auto)]
 
 pub mod bounds;
 mod fault;
-pub mod laws;
 pub mod plain;
-pub mod search_laws;
 pub mod tolerance;
 
 pub use fault::{Code, NetFault, Place};

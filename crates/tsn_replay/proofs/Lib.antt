@@ -30,4 +30,3 @@ pub mod Settings
 pub mod Progress
 pub mod PassageStarts
 pub mod BackgroundStarts
-pub mod SmallRuns

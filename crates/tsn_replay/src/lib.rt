@@ -12,7 +12,6 @@ mod openings;
 mod port;
 mod queue;
 pub mod replay_fault;
-pub mod replay_laws;
 mod rows;
 pub mod starts;
 pub mod table;

@@ -1,5 +1,0 @@
-use Rattle.tsn_answer.proofs.ShownPlans.{never_both}
-use Rattle.tsn_answer.proofs.proof_laws.proved_is_not_undercut.Goals as goal
-
-pub returns : goal.returns
-returns c = never_both

@@ -1,5 +1,0 @@
-use Rattle.tsn_gate.proofs.UniqueMerged.{lists_by_once}
-use Rattle.tsn_gate.proofs.laws.lists_by_are_unique.Goals as goal
-
-pub returns : goal.returns
-returns c = lists_by_once

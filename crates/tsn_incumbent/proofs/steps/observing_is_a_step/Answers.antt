@@ -1,5 +1,0 @@
-use Rattle.tsn_incumbent.proofs.Stepping.{observing}
-use Rattle.tsn_incumbent.proofs.steps.observing_is_a_step.Goals as goal
-
-pub returns : goal.returns
-returns c = observing

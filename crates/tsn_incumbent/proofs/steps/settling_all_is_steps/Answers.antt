@@ -1,5 +1,0 @@
-use Rattle.tsn_incumbent.proofs.Stepping.{settling_all}
-use Rattle.tsn_incumbent.proofs.steps.settling_all_is_steps.Goals as goal
-
-pub returns : goal.returns
-returns c = settling_all

@@ -1,0 +1,5 @@
+use Rattle.tsn_model.proofs.OnTime.{starts_on_time, wanted_kept}
+use Rattle.tsn_laws.proofs.definitions.frames_start_on_time.Goals as goal
+
+pub returns : goal.returns
+returns c = λ network formed offsets valid gates has cycles run is. starts_on_time network formed offsets valid gates (wanted_kept network offsets gates has) cycles run is

@@ -1,0 +1,5 @@
+use Rattle.tsn_laws.proofs.Small as shown
+use Rattle.tsn_laws.proofs.definitions.small_loads.Goals as goal
+
+pub returns : goal.returns
+returns c = shown.small_loads

@@ -1,0 +1,5 @@
+use Rattle.tsn_laws.proofs.SmallGates as shown
+use Rattle.tsn_laws.proofs.gates.small_kept_gates.Goals as goal
+
+pub returns : goal.returns
+returns c = shown.small_kept_gates

@@ -1,0 +1,5 @@
+use Rattle.tsn_laws.proofs.SmallSearches as shown
+use Rattle.tsn_laws.proofs.search.small_other_search.Goals as goal
+
+pub returns : goal.returns
+returns c = shown.small_other_search

@@ -1,5 +1,0 @@
-use Rattle.tsn_model.proofs.OnTime.{closed_hold}
-use Rattle.tsn_model.proofs.laws.closed_gates_hold.Goals as goal
-
-pub returns : goal.returns
-returns c = closed_hold

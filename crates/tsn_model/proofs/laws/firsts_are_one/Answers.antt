@@ -1,5 +1,0 @@
-use Rattle.tsn_model.proofs.Firsts.{first_once}
-use Rattle.tsn_model.proofs.laws.firsts_are_one.Goals as goal
-
-pub returns : goal.returns
-returns c = first_once

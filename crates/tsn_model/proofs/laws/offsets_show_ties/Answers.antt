@@ -1,6 +1,0 @@
-use Rattle.tsn_model.proofs.Ties.{shown_chains, shown_after}
-use Rattle.tsn_model.proofs.laws.offsets_show_ties.Goals as goal
-
-pub returns : goal.returns
-returns c = λ network path chains offsets plan shows counted planned before.
-    (shown_chains network path chains offsets plan shows, shown_after network path chains offsets plan shows counted planned before)

@@ -1,5 +1,0 @@
-use Rattle.tsn_model.proofs.Ties.{after_sooner}
-use Rattle.tsn_model.proofs.laws.ties_stay.Goals as goal
-
-pub returns : goal.returns
-returns c = after_sooner

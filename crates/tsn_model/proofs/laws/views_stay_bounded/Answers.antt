@@ -1,5 +1,0 @@
-use Rattle.tsn_model.proofs.ArgumentNumbers.{IsBounded-first, IsBounded-learned, IsBounded-settled}
-use Rattle.tsn_model.proofs.laws.views_stay_bounded.Goals as goal
-
-pub returns : goal.returns
-returns c = λ network goal. (IsBounded-first network goal, IsBounded-learned network, IsBounded-settled network goal)

@@ -1,5 +1,0 @@
-use Rattle.tsn_model.proofs.OnTime.{wanted_kept}
-use Rattle.tsn_model.proofs.laws.wanted_gates_are_kept.Goals as goal
-
-pub returns : goal.returns
-returns c = wanted_kept

@@ -1,5 +1,0 @@
-use Rattle.tsn_model.proofs.Runs.{answers_take, answers_run}
-use Rattle.tsn_model.proofs.search_laws.answers_are_steps.Goals as goal
-
-pub returns : goal.returns
-returns c = λ network limit. (answers_take network limit, λ state steps replies last. answers_run network limit steps replies state last)

@@ -1,5 +1,0 @@
-use Rattle.tsn_model.proofs.Kept.{kept_valid, kept_target}
-use Rattle.tsn_model.proofs.search_laws.kept_is_best.Goals as goal
-
-pub returns : goal.returns
-returns c = λ network history legal. (kept_valid network history legal, kept_target network history legal)

@@ -1,5 +1,0 @@
-use Rattle.tsn_model.proofs.Histories.{settled_is_made}
-use Rattle.tsn_model.proofs.search_laws.settled_paths_were_made.Goals as goal
-
-pub returns : goal.returns
-returns c = settled_is_made

@@ -1,5 +1,0 @@
-use Rattle.tsn_net.proofs.WellFormedTrees.{is_tree}
-use Rattle.tsn_net.proofs.laws.branches_are_routes.Goals as goal
-
-pub returns : goal.returns
-returns c = is_tree
