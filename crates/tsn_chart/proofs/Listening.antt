@@ -11,7 +11,7 @@ use Rattle.tsn_model.specs.Schedule.{offset_of}
 use Rattle.tsn_model.proofs.Limits.{hops-pos}
 use Rattle.tsn_model.proofs.Listeners.{hop_arrival-le-arrival}
 use Rattle.tsn_timing.specs.Problem.{NamedNetwork}
-use Rattle.tsn_listeners.specs.Ends.{has_several}
+use Rattle.tsn_timing.specs.Ends.{has_several}
 use Rattle.tsn_chart.specs.declared.stream.StreamShare.{StreamShare}
 use Rattle.tsn_chart.specs.declared.listener.ListenerShare.{ListenerShare}
 use Rattle.tsn_chart.specs.Shares.{stream_share, sends_several}

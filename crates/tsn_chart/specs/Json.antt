@@ -14,7 +14,7 @@ use Rattle.tsn_chart.specs.declared.stream.StreamShare.{StreamShare}
 use Rattle.tsn_chart.specs.declared.listener.ListenerShare.{ListenerShare}
 use Rattle.tsn_chart.specs.declared.link.LinkShare.{LinkShare}
 use Rattle.tsn_gate.specs.Table.{name_at}
-use Rattle.tsn_listeners.specs.Ends.{has_several}
+use Rattle.tsn_timing.specs.Ends.{has_several}
 use Rattle.tsn_chart.specs.Shares.{sends_several}
 use Rattle.tsn_chart.specs.Listeners.{listener_shares}
 use Rattle.tsn_chart.specs.Table.{stream_name}

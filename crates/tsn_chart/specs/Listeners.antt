@@ -5,7 +5,7 @@ use Rattle.std.specs.Prelude.{◌≡◌, ℕ, ◌+◌, ◌-◌, ◌<◌, List, m
 use Rattle.tsn_model.specs.Network.{Network, IsWellFormed, stream_count, hop_count, route_link, latest_of}
 use Rattle.tsn_model.specs.Timing.{transfer, start, hop_arrival, arrival}
 use Rattle.tsn_model.specs.Schedule.{offset_of}
-use Rattle.tsn_listeners.specs.Ends.{several_ends}
+use Rattle.tsn_timing.specs.Ends.{several_ends}
 use Rattle.tsn_chart.specs.declared.stream.StreamShare.{StreamShare}
 use Rattle.tsn_chart.specs.declared.listener.ListenerShare.{ListenerShare}
 use Rattle.tsn_chart.specs.Shares.{stream_share}

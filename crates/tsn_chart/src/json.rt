@@ -14,8 +14,7 @@ use serde_json::{Map, Value, put};
 use std::alloc::{AllocError, Global};
 use tsn_gate::json::{put_number, put_text};
 use tsn_gate::list::names;
-use tsn_listeners::has_several;
-use tsn_timing::Problem;
+use tsn_timing::{Problem, has_several};
 
 /// Lines of JSON: an object for each stream and each link, and one for the least slack.
 pub struct Json;

@@ -5,9 +5,8 @@ ghost use Rattle.tsn_chart.specs.Listeners.{ListenersArrive, listener_share, lis
 
 use crate::stream::StreamShare;
 use std::alloc::{AllocError, Global};
-use tsn_listeners::several_ends;
 use tsn_model::NoMemory;
-use tsn_timing::Timing;
+use tsn_timing::{Timing, several_ends};
 
 /// What the listener at the end of a hop gets of a stream, in nanoseconds.
 #[derive(Clone, Copy)]

@@ -1,7 +1,6 @@
 //! A network's names and times, where what isn't there has the name '?' and the time 0.
-use tsn_listeners::arrival_words;
 use tsn_model::{Decision, Frame, Link, Side, Triple};
-use tsn_timing::{Problem, Timing, arc_of, is_conflict};
+use tsn_timing::{Problem, Timing, arc_of, arrival_words, is_conflict};
 
 /// A network and its times, in nanoseconds.
 #[derive(Clone, Copy)]

@@ -6,6 +6,7 @@
 pub mod answers;
 pub mod definitions;
 pub mod gates;
+pub mod listeners;
 pub mod network_files;
 pub mod replays;
 pub mod search;

@@ -5,11 +5,10 @@ ghost use Rattle.tsn_model.specs.Network.{stream_count};
 use crate::Reason;
 use crate::names::{push_later, push_link, push_stream};
 use std::alloc::Global;
-use tsn_listeners::arrival_words;
 use tsn_model::{Triple, Violation};
 use tsn_text::pieces::{push_count, push_number, push_signed};
 use tsn_text::{TextBuilder, line_of};
-use tsn_timing::{Problem, Timing};
+use tsn_timing::{Problem, Timing, arrival_words};
 
 /// Offsets of the streams of a network, in nanoseconds.
 #[derive(Clone, Copy)]

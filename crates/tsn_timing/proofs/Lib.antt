@@ -8,3 +8,4 @@ pub mod Tabling
 pub mod Using
 pub mod Hopping
 mod DecidedArcs
+pub mod Ending

@@ -8,3 +8,4 @@ pub mod Solution
 pub mod Problem
 pub mod ProblemView
 pub mod ProblemModel
+pub mod Ends

@@ -3,6 +3,7 @@
 
 pub mod arc;
 mod between;
+mod ends;
 pub mod frames;
 mod neighbours;
 mod overlaps;
@@ -15,6 +16,7 @@ pub mod valid;
 pub mod window;
 
 pub use arc::{ChainSum, arc_of};
+pub use ends::{arrival_words, end_count, has_several, is_heard, several_ends};
 pub use frames::is_conflict;
 pub use problem::Problem;
 pub use solved::Solved;

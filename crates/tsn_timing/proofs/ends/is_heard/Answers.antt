@@ -1,9 +1,9 @@
 use Rattle.std.proofs.Common.{◌≡◌, not, ◌∙◌, sym, ap}
 use Rattle.tsn_model.specs.declared.Link.{Link}
 use Rattle.tsn_model.specs.Network.{link_at, route_of, to_at}
-use Rattle.tsn_listeners.specs.Ends.{goes_on, is_heard}
-use Rattle.tsn_listeners.proofs.Ending.{from_heard, to_heard}
-use Rattle.tsn_listeners.proofs.ends.is_heard.Goals as goal
+use Rattle.tsn_timing.specs.Ends.{goes_on, is_heard}
+use Rattle.tsn_timing.proofs.Ending.{from_heard, to_heard}
+use Rattle.tsn_timing.proofs.ends.is_heard.Goals as goal
 
 pub returns-clause-heard : goal.returns-clause-heard
 unfolding is_heard

@@ -1,7 +1,7 @@
 use Rattle.std.proofs.Common.{◌≡◌, ◌==◌, false, take}
 use Rattle.std.specs.List.{list_any}
 use Rattle.tsn_model.specs.Network.{link_at, route_of, hop_count}
-use Rattle.tsn_listeners.proofs.ends.goes_on.Given as goal
+use Rattle.tsn_timing.proofs.ends.goes_on.Given as goal
 
 abbrev pub invariant-loop-hop : goal.invariant-loop-hop
 invariant-loop-hop l = record {

@@ -1,7 +1,7 @@
 use Rattle.std.proofs.Common.{length, ap, sym, ◌∙◌, arith}
-use Rattle.tsn_listeners.proofs.Ending.{longer, as_long, ends_whole}
-use Rattle.tsn_listeners.proofs.ends.end_count.Goals as goal
-use Rattle.tsn_listeners.proofs.ends.end_count.Goals.{then-is_heard, else-is_heard}
+use Rattle.tsn_timing.proofs.Ending.{longer, as_long, ends_whole}
+use Rattle.tsn_timing.proofs.ends.end_count.Goals as goal
+use Rattle.tsn_timing.proofs.ends.end_count.Goals.{then-is_heard, else-is_heard}
 
 pub loop-hop-preserved : goal.loop-hop-preserved
 loop-hop-preserved c =

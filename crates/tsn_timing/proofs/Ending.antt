@@ -10,7 +10,7 @@ use Rattle.tsn_model.specs.Network.{Network, link_at, route_of, hop_count, from_
 use Rattle.tsn_model.specs.Lines.{IsLine}
 use Rattle.tsn_model.proofs.Lists.{range_more, Contains-range, Contains-filter, from_filter, All-range}
 use Rattle.tsn_model.proofs.Lines.{line_continues}
-use Rattle.tsn_listeners.specs.Ends.{goes_on, is_heard, ends_of, has_several, several_ends}
+use Rattle.tsn_timing.specs.Ends.{goes_on, is_heard, ends_of, has_several, several_ends}
 
 module _ (network : Network) (route : List ℕ) where
   -- whether a link begins at a node

@@ -1,9 +1,9 @@
 use Rattle.std.proofs.Common.{◌≡◌, ◌<◌, All, ℕ, ◌≤◌, ap, sym, ◌∙◌, subst, arith}
 use Rattle.tsn_model.specs.Network.{hop_count, route_of}
-use Rattle.tsn_listeners.specs.Ends.{is_heard, ends_of}
-use Rattle.tsn_listeners.proofs.Ending.{kept_more, kept_same, ends_whole, ends_exist}
-use Rattle.tsn_listeners.proofs.ends.ends_of.Goals as goal
-use Rattle.tsn_listeners.proofs.ends.ends_of.Goals.{then-is_heard+in_ok-push, else-is_heard}
+use Rattle.tsn_timing.specs.Ends.{is_heard, ends_of}
+use Rattle.tsn_timing.proofs.Ending.{kept_more, kept_same, ends_whole, ends_exist}
+use Rattle.tsn_timing.proofs.ends.ends_of.Goals as goal
+use Rattle.tsn_timing.proofs.ends.ends_of.Goals.{then-is_heard+in_ok-push, else-is_heard}
 
 pub loop-hop-preserved : goal.loop-hop-preserved
 loop-hop-preserved c =

@@ -1,10 +1,10 @@
 //! The hops of a stream that end at a listener.
 ghost use Rattle.std.specs.Prelude.{◌≡◌, ◌<◌, ◌↔◌, [], All, IfOk, IsTrue, false, length};
 ghost use Rattle.tsn_model.specs.Network.{IsHeard, hop_count, route_of, stream_count};
-ghost use Rattle.tsn_listeners.specs.Ends.{ends_of, goes_on, has_several, is_heard, several_ends};
+ghost use Rattle.tsn_timing.specs.Ends.{ends_of, goes_on, has_several, is_heard, several_ends};
 
+use crate::timing::Timing;
 use std::alloc::{AllocError, Global};
-use tsn_timing::Timing;
 
 // Whether some link of a stream's route begins at a node.
 fn goes_on(timing: &Timing, stream: usize, node: usize) -> bool

@@ -1,5 +1,5 @@
-//! What the ends of a route are.
-ghost use Rattle.tsn_listeners.specs.Ends.{EndsAreHeard, LinesHaveOneEnd};
+//! What the ends of a route are. Each function does nothing: its contract is the law.
+ghost use Rattle.tsn_timing.specs.Ends.{EndsAreHeard, LinesHaveOneEnd};
 
 /// The ends of a stream are the hops that none of its links continues.
 pub fn ends_are_heard()

@@ -1,7 +1,7 @@
 use Rattle.std.proofs.Common.{◌≡◌, ◌≤◌, length}
 use Rattle.tsn_model.specs.Network.{hop_count}
-use Rattle.tsn_listeners.proofs.Ending.{ends_upto}
-use Rattle.tsn_listeners.proofs.ends.end_count.Given as goal
+use Rattle.tsn_timing.proofs.Ending.{ends_upto}
+use Rattle.tsn_timing.proofs.ends.end_count.Given as goal
 
 abbrev pub invariant-loop-hop : goal.invariant-loop-hop
 invariant-loop-hop l = record {

@@ -2,8 +2,8 @@ use Rattle.std.proofs.Common.{◌∙◌, sym, ap, arith}
 use Rattle.std.proofs.lemmas.Grind.{common_steps}
 use Rattle.tsn_model.specs.declared.Link.{Link}
 use Rattle.tsn_model.specs.Network.{link_at, route_of}
-use Rattle.tsn_listeners.proofs.Ending.{found_on, none_on}
-use Rattle.tsn_listeners.proofs.ends.goes_on.Goals as goal
+use Rattle.tsn_timing.proofs.Ending.{found_on, none_on}
+use Rattle.tsn_timing.proofs.ends.goes_on.Goals as goal
 
 pub returns-then-link-node : goal.returns-then-link-node
 returns-then-link-node c =
