@@ -16,8 +16,8 @@ use Rattle.tsn_model.proofs.Places.{pending-nil, pending-left, pending-right}
 use Rattle.tsn_model.proofs.Decisions.{take-decided}
 use Rattle.tsn_model.specs.Walk.{path_made, IsPlaceOf}
 use Rattle.tsn_model.proofs.Histories.{made_paths-snoc}
-use Rattle.tsn_node.specs.declared.outcome.Look.{Look}
-use Rattle.tsn_node.specs.Outcome.{outcome_of}
+use Rattle.tsn_conflict.specs.declared.outcome.Look.{Look}
+use Rattle.tsn_conflict.specs.Outcome.{outcome_of}
 use Rattle.tsn_book.specs.declared.event.Event.{Event as Found}
 use Rattle.tsn_book.specs.Event.{event_of}
 use Rattle.tsn_book.specs.Arena.{IsLeafOutcome}

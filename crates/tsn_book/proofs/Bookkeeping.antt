@@ -31,7 +31,7 @@ use Rattle.tsn_book.specs.declared.statuses.Status.{Status}
 use Rattle.tsn_book.specs.declared.statuses.Status.TheVariants.{Open}
 use Rattle.tsn_book.specs.declared.log.Settled.{Settled}
 use Rattle.tsn_book.specs.declared.ledger.Summary.{Summary}
-use Rattle.tsn_node.specs.Outcome.{outcome_of}
+use Rattle.tsn_conflict.specs.Outcome.{outcome_of}
 use Rattle.tsn_book.specs.Arena.{paths_of, settlement_of, history_of, IsEvent, IsTree, AreClosed, ClosedAt}
 use Rattle.tsn_book.specs.Book.{child_count, is_better, before_kept, kept_after, tally_after, IsKept, IsSummary, IsBook, IsLawful}
 use Rattle.tsn_book.proofs.Growing.{event_stays, event_new}

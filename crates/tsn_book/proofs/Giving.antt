@@ -7,8 +7,8 @@ use Rattle.tsn_model.specs.Network.{Network}
 use Rattle.tsn_model.specs.Certificate.{Node}
 use Rattle.tsn_timing.specs.Solution.{Solution}
 use Rattle.tsn_model.specs.Order.{node_of}
-use Rattle.tsn_node.specs.Outcome.{outcome_of}
-use Rattle.tsn_node.specs.declared.outcome.Look.TheVariants.{Split}
+use Rattle.tsn_conflict.specs.Outcome.{outcome_of}
+use Rattle.tsn_conflict.specs.declared.outcome.Look.TheVariants.{Split}
 use Rattle.tsn_book.specs.declared.log.Settled.{Settled}
 use Rattle.tsn_book.specs.Book.{planned, HasTie}
 use Rattle.tsn_book.specs.Spelling.{left_nodes, numbered_node, IsSpelling}

@@ -18,9 +18,9 @@ use Rattle.tsn_book.specs.declared.statuses.Origin.TheVariants.{Root, Child}
 use Rattle.tsn_book.specs.declared.statuses.Status.{Status}
 use Rattle.tsn_book.specs.declared.statuses.Status.TheVariants.{Open, Split, Leaf}
 use Rattle.tsn_book.specs.declared.log.Settled.{Settled}
-use Rattle.tsn_node.specs.declared.outcome.Look.{Look}
-use Rattle.tsn_node.specs.declared.outcome.Look.TheVariants.{Split as FoundSplit}
-use Rattle.tsn_node.specs.Outcome.{outcome_of}
+use Rattle.tsn_conflict.specs.declared.outcome.Look.{Look}
+use Rattle.tsn_conflict.specs.declared.outcome.Look.TheVariants.{Split as FoundSplit}
+use Rattle.tsn_conflict.specs.Outcome.{outcome_of}
 use Rattle.tsn_book.specs.Arena.{path_at, path_from, with_path, paths_of, settlement_of, history_of, IsEvent, IsPlaced, IsTree, IsOpenPlace, IsLeafOutcome, IsAfterParent}
 use Rattle.tsn_book.proofs.Places.{paths_of-snoc, length-paths_of, path_at-left, path_at-right}
 

@@ -4,10 +4,10 @@ use Rattle.tsn_model.specs.declared.Decision.{Decision}
 use Rattle.tsn_model.specs.Network.{Network}
 use Rattle.tsn_model.specs.Search.{Event}
 use Rattle.tsn_model.specs.Walk.{IsPlaceOf}
-use Rattle.tsn_node.specs.declared.outcome.Look.{Look}
-use Rattle.tsn_node.specs.declared.outcome.Look.TheVariants.{Split}
-use Rattle.tsn_node.specs.Outcome.{outcome_of}
-use Rattle.tsn_node.specs.Right.{HasProof, SplitsUndecided}
+use Rattle.tsn_conflict.specs.declared.outcome.Look.{Look}
+use Rattle.tsn_conflict.specs.declared.outcome.Look.TheVariants.{Split}
+use Rattle.tsn_conflict.specs.Outcome.{outcome_of}
+use Rattle.tsn_conflict.specs.Right.{HasProof, SplitsUndecided}
 use Rattle.tsn_book.specs.declared.fault.BookFault.{BookFault}
 use Rattle.tsn_book.specs.declared.ledger.Ledger.{Ledger}
 use Rattle.tsn_book.specs.Arena.{settled_in}

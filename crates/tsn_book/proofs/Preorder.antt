@@ -23,8 +23,8 @@ use Rattle.tsn_model.proofs.Histories.{settled_at}
 use Rattle.tsn_model.proofs.Growths.{Growth, open_place, leaf_place, branch_place, in_order, open_in, Stands, Backs, legal_growth, grown_tree, nil-left, nil-right}
 use Rattle.tsn_model.proofs.Preorders.{SettledBefore, in_order_ordered, Precedes-irreflexive}
 use Rattle.tsn_model.proofs.Finished.{history_backed}
-use Rattle.tsn_node.specs.Outcome.{outcome_of}
-use Rattle.tsn_node.specs.declared.outcome.Look.TheVariants.{Split as FoundSplit}
+use Rattle.tsn_conflict.specs.Outcome.{outcome_of}
+use Rattle.tsn_conflict.specs.declared.outcome.Look.TheVariants.{Split as FoundSplit}
 use Rattle.tsn_book.specs.declared.statuses.Origin.{Origin}
 use Rattle.tsn_book.specs.declared.statuses.Status.{Status}
 use Rattle.tsn_book.specs.declared.statuses.Status.TheVariants.{Open, Split, Leaf}

@@ -13,7 +13,7 @@ use Rattle.tsn_model.specs.Network.{Network}
 use Rattle.tsn_model.specs.Certificate.{decided}
 use Rattle.tsn_model.specs.Search as search
 use Rattle.tsn_model.specs.Search.{Settlement, path_eq, made_paths, open_paths, is_settled, ends_of, PathBefore, IsLegal}
-use Rattle.tsn_node.specs.Outcome.{outcome_of}
+use Rattle.tsn_conflict.specs.Outcome.{outcome_of}
 use Rattle.tsn_book.specs.declared.statuses.Origin.{Origin}
 use Rattle.tsn_book.specs.declared.statuses.Origin.TheVariants.{Root, Child}
 use Rattle.tsn_book.specs.declared.statuses.Status.{Status}

@@ -1,8 +1,8 @@
 -- What was settled, in pieces, and what waits to be settled.
 use Rattle.std.specs.Prelude.{pos, ◌≡◌, ℕ, ◌+◌, ◌≤◌, ◌^◌, List, [], ◌∷◌, length}
 use Rattle.std.specs.List.{flat_map, slice_index_or}
-use Rattle.tsn_node.specs.declared.outcome.Look.{Look}
-use Rattle.tsn_node.specs.declared.outcome.Look.TheVariants.{Split}
+use Rattle.tsn_conflict.specs.declared.outcome.Look.{Look}
+use Rattle.tsn_conflict.specs.declared.outcome.Look.TheVariants.{Split}
 use Rattle.tsn_book.specs.declared.log.Settled.{Settled}
 use Rattle.tsn_book.specs.declared.log.Piece.{Piece}
 

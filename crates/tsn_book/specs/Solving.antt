@@ -1,7 +1,7 @@
 -- What a teller has solved.
 use Rattle.std.specs.Prelude.{◌≡◌, ℕ}
 use Rattle.tsn_model.specs.Search.{Outcome, split, solved, pruned, tied, refuted}
-use Rattle.tsn_node.specs.Outcome.{outcome_of}
+use Rattle.tsn_conflict.specs.Outcome.{outcome_of}
 use Rattle.tsn_book.specs.declared.log.Settled.{Settled}
 
 -- a solved leaf of that flowspan

@@ -12,8 +12,8 @@ use Rattle.tsn_model.specs.Order.{Precedes, node_of}
 use Rattle.tsn_model.specs.SearchLaws.{AreAcceptedTree}
 use Rattle.tsn_model.proofs.Growths.{Growth, in_order, open_in, Stands}
 use Rattle.tsn_timing.specs.Solution.{Solution}
-use Rattle.tsn_node.specs.Outcome.{outcome_of}
-use Rattle.tsn_node.specs.declared.outcome.Look.TheVariants.{Split}
+use Rattle.tsn_conflict.specs.Outcome.{outcome_of}
+use Rattle.tsn_conflict.specs.declared.outcome.Look.TheVariants.{Split}
 use Rattle.tsn_book.specs.Arena.{path_at}
 use Rattle.tsn_book.specs.Book.{planned, IsPlan, HasTie}
 use Rattle.tsn_book.specs.declared.log.Settled.{Settled}

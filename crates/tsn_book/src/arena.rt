@@ -7,8 +7,8 @@ ghost use Rattle.tsn_model.specs.Certificate.{AreChains};
 ghost use Rattle.tsn_model.specs.Search.{split, made_paths, open_paths, best_bound, kept_of, IsNoBetter, IsRight, IsAllowed, IsFirstOpen};
 ghost use Rattle.tsn_model.specs.Replies.{IsUnmet};
 ghost use Rattle.tsn_model.specs.Walk.{path_made};
-ghost use Rattle.tsn_node.specs.Outcome.{outcome_of};
-ghost use Rattle.tsn_node.specs.Right.{HasProof, SplitsUndecided};
+ghost use Rattle.tsn_conflict.specs.Outcome.{outcome_of};
+ghost use Rattle.tsn_conflict.specs.Right.{HasProof, SplitsUndecided};
 ghost use Rattle.tsn_book.specs.Event.{event_of};
 ghost use Rattle.tsn_book.specs.Below.{IsAbove};
 ghost use Rattle.tsn_book.specs.Book.{IsFault, IsMet, IsKept, is_better};
@@ -21,9 +21,9 @@ use crate::log::Log;
 use crate::statuses::{Origin, Places, Status};
 use crate::ties::{comes_before, shows_after};
 use std::alloc::{AllocError, Global};
+use tsn_conflict::outcome::Look;
+use tsn_conflict::{Decision, NoMemory, Node, Side, Triple};
 use tsn_diff::Forest;
-use tsn_node::outcome::Look;
-use tsn_node::{Decision, NoMemory, Node, Side, Triple};
 use tsn_timing::{Solved, Timing, is_conflict};
 
 /// Where a walk along a path ends: at an open place, at one that an event settled, or outside the tree.

@@ -1,7 +1,7 @@
 //! Several events that are settled in one call.
 ghost use Rattle.std.specs.Prelude.{◌≡◌, ◌<◌, ◌++◌, length, map, take, drop, All, IfErr, OnOk};
-ghost use Rattle.tsn_node.specs.Outcome.{outcome_of};
-ghost use Rattle.tsn_node.specs.Right.{HasProof, SplitsUndecided};
+ghost use Rattle.tsn_conflict.specs.Outcome.{outcome_of};
+ghost use Rattle.tsn_conflict.specs.Right.{HasProof, SplitsUndecided};
 ghost use Rattle.tsn_book.specs.Event.{event_of};
 ghost use Rattle.tsn_book.specs.Book.{IsLawful};
 ghost use Rattle.tsn_book.specs.Below.{settlements_by, events_below, path_after, IsFaultAt};
@@ -10,7 +10,7 @@ use crate::book::Book;
 use crate::event::Event;
 use crate::looks::Looks;
 use crate::refusal::{BatchRefusal, EventRefusal, WalkRefusal};
-use tsn_node::Node;
+use tsn_conflict::Node;
 
 impl Book {
     /// Settles events in order, up to the first that may not be settled. A refusal tells how many were settled, why the next

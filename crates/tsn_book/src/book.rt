@@ -3,8 +3,8 @@ ghost use Rattle.std.specs.Prelude.{◌≡◌, ◌<◌, ◌+◌, ◌++◌, ◌�
 ghost use Rattle.tsn_cert.specs.declared.cert.Format.{Format};
 ghost use Rattle.tsn_timing.specs.Solution.{IsSolved};
 ghost use Rattle.tsn_model.specs.Search.{Outcome, made_paths, open_paths, best_bound, kept_of, tally_of, solved_bounds, settled_by, tally_as, IsAllowed, IsFirstOpen};
-ghost use Rattle.tsn_node.specs.Outcome.{outcome_of};
-ghost use Rattle.tsn_node.specs.Right.{HasProof, SplitsUndecided};
+ghost use Rattle.tsn_conflict.specs.Outcome.{outcome_of};
+ghost use Rattle.tsn_conflict.specs.Right.{HasProof, SplitsUndecided};
 ghost use Rattle.tsn_book.specs.Event.{event_of};
 ghost use Rattle.tsn_model.specs.SearchLaws.{IsBelowBounds};
 ghost use Rattle.tsn_model.specs.Walk.{path_made, IsPlaceOf};
@@ -21,9 +21,9 @@ use crate::spelling::Spelling;
 use std::alloc::{AllocError, Global};
 use std::marker::Model;
 use tsn_cert::Cert;
+use tsn_conflict::outcome::Look;
+use tsn_conflict::{Decision, NoMemory, Node, Triple};
 use tsn_model::Tally;
-use tsn_node::outcome::Look;
-use tsn_node::{Decision, NoMemory, Node, Triple};
 use tsn_timing::{Solved, Timing};
 
 /// What was settled of a search, by tellers with numbers from 0, at most as many events as its limit says.

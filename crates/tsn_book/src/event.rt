@@ -1,7 +1,7 @@
 //! What a search settles.
 
-use tsn_node::Node;
-use tsn_node::outcome::Look;
+use tsn_conflict::Node;
+use tsn_conflict::outcome::Look;
 
 /// A node, with what a look at it found.
 #[derive(Drop)]

@@ -5,9 +5,9 @@ ghost use Rattle.tsn_model.specs.declared.Side.TheVariants.{Left};
 ghost use Rattle.tsn_model.specs.Certificate.{decided};
 ghost use Rattle.tsn_model.specs.Search.{made_paths, open_paths, best_bound, kept_of, solved_bound, split, tally_as, IsAllowed};
 ghost use Rattle.tsn_model.specs.Walk.{path_made, IsPlaceOf};
-ghost use Rattle.tsn_node.specs.declared.outcome.Look.{Look};
-ghost use Rattle.tsn_node.specs.Outcome.{outcome_of};
-ghost use Rattle.tsn_node.specs.Right.{HasProof, SplitsUndecided};
+ghost use Rattle.tsn_conflict.specs.declared.outcome.Look.{Look};
+ghost use Rattle.tsn_conflict.specs.Outcome.{outcome_of};
+ghost use Rattle.tsn_conflict.specs.Right.{HasProof, SplitsUndecided};
 ghost use Rattle.tsn_book.specs.Arena.{HasRoom, settled_in};
 ghost use Rattle.tsn_book.specs.Book.{IsFault, IsPlanOf, SpellsAccepted, AreNodesOf, child_count, is_better, kept_after, tally_after};
 ghost use Rattle.tsn_book.specs.Below.{events_below, path_after, next_path, after_leaf, IsFaultAt};
@@ -19,9 +19,9 @@ use crate::arena::{Bounds, Tree, split_of};
 use crate::fault::BookFault;
 use crate::refusal::WalkRefusal;
 use crate::spelling::{Spelling, order_of};
+use tsn_conflict::outcome::Look;
+use tsn_conflict::{Decision, NoMemory, Node, Side, Triple};
 use tsn_model::Tally;
-use tsn_node::outcome::Look;
-use tsn_node::{Decision, NoMemory, Node, Side, Triple};
 use tsn_timing::Solved;
 
 /// The tree of a search, and what is known of it all.

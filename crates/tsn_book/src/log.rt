@@ -1,7 +1,7 @@
 //! What was settled, oldest first, in pieces of which none is copied to make room for more, and what waits to be settled.
 ghost use Rattle.std.specs.Prelude.{◌≡◌, ◌≢◌, ◌+◌, ◌<◌, ◌≤◌, ◌^◌, ◌++◌, ◌∷◌, [], ℕ, length, drop, map, vec_capacity, IfErr, OnOk, OnErr, slice_index_or, MatchBool};
 ghost use Rattle.std.specs.List.{flat_map};
-ghost use Rattle.tsn_node.specs.declared.outcome.Look.{Look};
+ghost use Rattle.tsn_conflict.specs.declared.outcome.Look.{Look};
 ghost use Rattle.tsn_book.specs.declared.log.Settled.{Settled};
 ghost use Rattle.tsn_book.specs.declared.log.Piece.{Piece};
 ghost use Rattle.tsn_book.specs.Log.{look_of, items_of, next_of, AreNumbered};
@@ -10,8 +10,8 @@ use crate::looks::Looks;
 use std::alloc::{AllocError, Global};
 use std::marker::Model;
 use std::mem;
-use tsn_node::Triple;
-use tsn_node::outcome::Look;
+use tsn_conflict::Triple;
+use tsn_conflict::outcome::Look;
 
 // How many events a piece has, where they come one by one.
 const PIECE: usize = 512;

@@ -4,8 +4,8 @@ ghost use Rattle.std.specs.Prelude.{◌≡◌, ◌<◌, ◌++◌, ◌∷◌, [],
 use crate::log::Settled;
 use std::alloc::Global;
 use std::marker::Model;
-use tsn_node::NoMemory;
-use tsn_node::outcome::Look;
+use tsn_conflict::NoMemory;
+use tsn_conflict::outcome::Look;
 
 /// What looks found, in the order in which it is settled. It stays where it is in memory when it is settled.
 #[derive(Drop)]
@@ -16,7 +16,7 @@ pub struct Looks {
 
 impl Model for Looks {
     ghost use Rattle.std.specs.Prelude.{List, map};
-    ghost use Rattle.tsn_node.specs.declared.outcome.Look.{Look};
+    ghost use Rattle.tsn_conflict.specs.declared.outcome.Look.{Look};
     ghost use Rattle.tsn_book.specs.Log.{look_of};
 
     ghost Value = { List Look };

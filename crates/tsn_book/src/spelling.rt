@@ -6,7 +6,7 @@ ghost use Rattle.tsn_model.specs.Order.{node_of};
 ghost use Rattle.tsn_model.specs.Schedule.{common};
 ghost use Rattle.tsn_model.specs.Certificate.{tie_node};
 ghost use Rattle.tsn_cert.specs.Leaf.{bound_leaf};
-ghost use Rattle.tsn_node.specs.Outcome.{outcome_of};
+ghost use Rattle.tsn_conflict.specs.Outcome.{outcome_of};
 ghost use Rattle.tsn_book.specs.Arena.{IsArena, settled_in};
 ghost use Rattle.tsn_book.specs.Book.{planned, IsPlan, HasTie};
 ghost use Rattle.tsn_book.specs.Spelling.{IsOrder, IsSpelling, left_nodes};
@@ -19,9 +19,9 @@ use crate::statuses::Status;
 use std::alloc::{AllocError, Global};
 use std::marker::Model;
 use tsn_cert::{Cert, Format, Leaf, LowerBound, Node, Nodes};
+use tsn_conflict::outcome::Look;
+use tsn_conflict::{NoMemory, whole_chains};
 use tsn_diff::Forest;
-use tsn_node::outcome::Look;
-use tsn_node::{NoMemory, whole_chains};
 use tsn_timing::{Solved, Timing};
 
 /// A certificate of format 2, whose nodes are given one at a time: a split's node before those of its Left child, and these

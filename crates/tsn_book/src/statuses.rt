@@ -6,7 +6,7 @@ ghost use Rattle.tsn_book.specs.declared.statuses.Status.TheVariants.{Open, Spli
 
 use std::alloc::{AllocError, Global};
 use std::marker::Model;
-use tsn_node::{Decision, Side, Triple};
+use tsn_conflict::{Decision, Side, Triple};
 
 /// How a place was made: a child has its parent's number, and the decision that leads to it.
 #[derive(Clone, Copy)]

@@ -3,8 +3,8 @@ ghost use Rattle.std.specs.Prelude.{◌≡◌, ◌≤◌, length, All, MatchBool
 ghost use Rattle.tsn_model.specs.Schedule.{IsConflict, IsValid, comes_before};
 ghost use Rattle.tsn_model.specs.Certificate.{LeadsTo, AreChains, ShowsAfter, sum_on};
 
+use tsn_conflict::Decision;
 use tsn_diff::{Forest, Walk};
-use tsn_node::Decision;
 use tsn_timing::{ChainSum, Timing, arc_of};
 
 /// Whether the first list has the lesser number where the lists first differ.

@@ -4,7 +4,7 @@ use Rattle.tsn_model.specs.Network.{Network, IsWellFormed}
 use Rattle.tsn_model.specs.Schedule.{flowspan}
 use Rattle.tsn_model.specs.Search.{Outcome, split, solved, pruned, tied, refuted}
 use Rattle.tsn_model.proofs.Soundness.{leaf_sound, HoldsAll-root}
-use Rattle.tsn_node.specs.Right.{HasProof}
+use Rattle.tsn_conflict.specs.Right.{HasProof}
 use Rattle.tsn_branch.specs.Bound.{IsLowerBound, HasBoundAt}
 
 nothing : (network : Network) (bound : ℕ) → bound ≡ 0 → IsLowerBound network bound

@@ -15,7 +15,7 @@ use Rattle.tsn_model.specs.Arcs.{arcs_of}
 use Rattle.tsn_model.specs.Certificate.{decided}
 use Rattle.tsn_model.proofs.Decisions.{length-decided}
 use Rattle.tsn_branch.specs.declared.judgement.SplitPoint.{SplitPoint}
-use Rattle.tsn_node.specs.Path.{DecidesOnce, Fits}
+use Rattle.tsn_conflict.specs.Path.{DecidesOnce, Fits}
 use Rattle.tsn_branch.specs.Descent.{IsSplitPoint, AreSplitPoints}
 
 pub arcs-nil : (network : Network) → arcs_of network [] ≡ []

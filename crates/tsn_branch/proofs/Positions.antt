@@ -21,7 +21,7 @@ use Rattle.tsn_branch.specs.declared.judgement.SplitPoint.{SplitPoint}
 use Rattle.tsn_branch.specs.Descent.{Position, IsSplitPoint, WasSplitPoint, AreSplitPoints, Stands, Splits, Leads}
 use Rattle.tsn_model.proofs.Decisions.{length-arcs_of, arcs_of-decided, take-decided}
 use Rattle.tsn_branch.proofs.Leasts.{AreLeast-from}
-use Rattle.tsn_node.proofs.Paths.{by_last}
+use Rattle.tsn_conflict.proofs.Paths.{by_last}
 use Rattle.tsn_branch.proofs.Descents.{arcs-nil, points_none, points_more, points_above, points_turned, points_last, take-inner}
 
 pub stands_root : (network : Network) (stack : Stack) (found : Option SplitPoint) → stack.least.releases ≡ releases_of network → stack.least.arcs ≡ [] → Stands network (record { path = []; stack = stack; splits = []; found = found })

@@ -17,10 +17,10 @@ use Rattle.tsn_model.proofs.Lists.{All-unmap}
 use Rattle.tsn_model.proofs.Overlaps.{not_both_ways}
 use Rattle.tsn_model.proofs.Ties.{shown_chains, shown_after}
 use Rattle.tsn_timing.specs.Solution.{Solution, IsSolved}
-use Rattle.tsn_node.specs.Path.{IsUndecided}
+use Rattle.tsn_conflict.specs.Path.{IsUndecided}
 use Rattle.tsn_branch.proofs.Shown.{entries_shown, busy_shown, load_shown}
 use Rattle.tsn_branch.specs.Look.{IsLook, IsRefutation, IsPruning, IsTie, ShowsFlowspan, SplitsAmong, PrunesFrom, SolvesBelow, TiesWith}
-use Rattle.tsn_node.specs.Right.{HasProof, SplitsUndecided}
+use Rattle.tsn_conflict.specs.Right.{HasProof, SplitsUndecided}
 
 -- offsets that hold the arc of one side put the two frames apart
 held_apart : (network : Network) (offsets : List ℕ) (triple : Triple) (side : Side) → Holds offsets (arc_on network triple side) → Overlaps network offsets triple → ⊥

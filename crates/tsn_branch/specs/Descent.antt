@@ -14,12 +14,12 @@ use Rattle.tsn_diff.specs.Stack.{Stack}
 use Rattle.tsn_diff.specs.Offsets.{LeastOffsets}
 use Rattle.tsn_diff.specs.Answers.{Solves}
 use Rattle.tsn_timing.specs.Solution.{Solution}
-use Rattle.tsn_node.specs.Outcome.{outcome_of}
+use Rattle.tsn_conflict.specs.Outcome.{outcome_of}
 use Rattle.tsn_branch.specs.Look.{AreLeast, IsLook, ShowsFlowspan}
 use Rattle.tsn_branch.specs.Links.{shared_links, IsUnloaded}
 use Rattle.tsn_branch.specs.Ends.{Ended, AreRaised}
 use Rattle.tsn_branch.specs.Releases.{releases_of}
-use Rattle.tsn_node.specs.declared.outcome.Look.{Look}
+use Rattle.tsn_conflict.specs.declared.outcome.Look.{Look}
 use Rattle.tsn_branch.specs.declared.judgement.SplitPoint.{SplitPoint}
 use Rattle.tsn_branch.specs.declared.judgement.Judgement.{Judgement}
 use Rattle.tsn_branch.specs.declared.judgement.Judgement.TheVariants.{Split, Closed}

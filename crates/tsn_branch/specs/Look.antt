@@ -17,7 +17,7 @@ use Rattle.tsn_model.specs.Arcs.{arcs_of, HoldsAll}
 use Rattle.tsn_model.specs.Certificate.{Leaf, late, overrun, positive_cycle, load, overload, Entry, LeadsTo, sum_on, Proves, HasBound, AreChains, ShowsAfter}
 use Rattle.tsn_model.specs.Search.{Outcome, split, solved, pruned, tied, refuted, Refutes, ShowsOffsets}
 use Rattle.tsn_timing.specs.Solution.{Solution}
-use Rattle.tsn_node.specs.Path.{IsUndecided}
+use Rattle.tsn_conflict.specs.Path.{IsUndecided}
 use Rattle.tsn_branch.specs.Links.{users_of, shared_links, busy_by, load_by, IsUnloaded, IsFirstLoaded}
 
 -- ---- offsets on a path

@@ -5,15 +5,15 @@ ghost use Rattle.tsn_model.specs.Arcs as model;
 ghost use Rattle.tsn_conflict.specs.Kept.{AreConflictsOf};
 ghost use Rattle.tsn_diff.specs.Limits.{IsArcAmong};
 ghost use Rattle.tsn_diff.specs.Answers.{Answers};
-ghost use Rattle.tsn_node.specs.Path.{Fits};
+ghost use Rattle.tsn_conflict.specs.Path.{Fits};
 ghost use Rattle.tsn_branch.specs.Releases.{releases_of};
 ghost use Rattle.tsn_branch.specs.Least.{IsLeastAbove};
 
 use std::alloc::{AllocError, Global};
+use tsn_conflict::Node;
 use tsn_conflict::sharing::Conflicts;
 use tsn_diff::{Feasibility, Least, Net};
 use tsn_model::{Arc, Decision, NoMemory};
-use tsn_node::Node;
 use tsn_timing::Timing;
 
 /// Whether each triple of the node's path is one of the conflicts. It takes no memory.

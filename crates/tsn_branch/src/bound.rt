@@ -1,13 +1,13 @@
 //! A flowspan that no schedule undercuts.
 ghost use Rattle.std.specs.Prelude.{◌≡◌, IfOk};
-ghost use Rattle.tsn_node.specs.Outcome.{outcome_of};
+ghost use Rattle.tsn_conflict.specs.Outcome.{outcome_of};
 ghost use Rattle.tsn_branch.specs.Bound.{IsLowerBound, HasBoundAt};
 
 use crate::descent::Descent;
 use crate::tables::{Aim, Tables};
 use std::alloc::Global;
-use tsn_node::NoMemory;
-use tsn_node::outcome::Look;
+use tsn_conflict::NoMemory;
+use tsn_conflict::outcome::Look;
 use tsn_timing::Timing;
 
 /// The most streams that are searched in the order of the file.

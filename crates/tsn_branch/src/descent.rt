@@ -9,10 +9,10 @@ ghost use Rattle.tsn_model.specs.Arcs.{arcs_of};
 ghost use Rattle.tsn_model.specs.Certificate.{decided};
 ghost use Rattle.tsn_diff.specs.Answers.{Refutes};
 ghost use Rattle.tsn_conflict.specs.Kept.{AreConflictsOf};
-ghost use Rattle.tsn_node.specs.Outcome.{outcome_of};
-ghost use Rattle.tsn_node.specs.Path.{Fits, IsUndecided};
+ghost use Rattle.tsn_conflict.specs.Outcome.{outcome_of};
+ghost use Rattle.tsn_conflict.specs.Path.{Fits, IsUndecided};
 ghost use Rattle.tsn_branch.specs.Look.{HasNoOffsets, IsLook, SplitsAmong, PrunesFrom, SolvesBelow, TiesWith};
-ghost use Rattle.tsn_node.specs.Right.{HasProof, SplitsUndecided};
+ghost use Rattle.tsn_conflict.specs.Right.{HasProof, SplitsUndecided};
 ghost use Rattle.tsn_branch.specs.Releases.{releases_of};
 ghost use Rattle.tsn_branch.specs.Descent.{Stands, Splits, IsAfter, Leads, IsJudgement};
 
@@ -24,11 +24,11 @@ use crate::tables::{Aim, Tables};
 use std::alloc::Global;
 use std::marker::Model;
 use tsn_cert::Leaf;
+use tsn_conflict::Node;
+use tsn_conflict::outcome::Look;
 use tsn_conflict::sharing::Conflicts;
 use tsn_diff::ArcStack;
 use tsn_model::{Decision, NoMemory, Side, Triple};
-use tsn_node::Node;
-use tsn_node::outcome::Look;
 use tsn_timing::Timing;
 
 /// A node with what is known of the nodes above it: the arcs of their decisions with the least offsets, when the streams are

@@ -9,7 +9,7 @@ ghost use Rattle.tsn_timing.specs.Solution.{Solution, IsSolved};
 ghost use Rattle.tsn_cert.specs.Leaf.{bound_leaf};
 ghost use Rattle.tsn_diff.specs.Answers.{Answers, Solves};
 ghost use Rattle.tsn_diff.specs.Offsets.{chain_of};
-ghost use Rattle.tsn_node.specs.Outcome.{outcome_of};
+ghost use Rattle.tsn_conflict.specs.Outcome.{outcome_of};
 ghost use Rattle.tsn_branch.specs.Look.{IsLook, AllFit, IsFirstLast, IsPruning, IsUntied, ShowsLink};
 ghost use Rattle.tsn_branch.specs.Links.{shared_links, IsUnloaded};
 ghost use Rattle.tsn_branch.specs.Loads.{IsFirstLoad, IsTightest, entry_by};
@@ -27,9 +27,9 @@ use crate::tables::{Aim, Tables};
 use std::alloc::{AllocError, Global};
 use tsn_cert::{Entries, Entry, Leaf, LowerBound};
 use tsn_conflict::laws::parents_overlap_starts;
+use tsn_conflict::outcome::Look;
 use tsn_diff::{ArcStack, Feasibility, Least};
 use tsn_model::{Frame, NoMemory};
-use tsn_node::outcome::Look;
 use tsn_timing::{Solved, Timing};
 
 // What is known of the least offsets of a node from those of the node above.

@@ -1,6 +1,6 @@
 //! What is found at a node.
 
-use tsn_node::outcome::Look;
+use tsn_conflict::outcome::Look;
 
 /// What a node that is to be split has, by the least offsets of its path.
 #[derive(Clone, Copy)]

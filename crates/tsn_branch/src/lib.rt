@@ -6,10 +6,10 @@
 ghost use Rattle.std.specs.Prelude.{IfOk, IfSome, option_copied};
 ghost use Rattle.tsn_timing.specs.Solution.{IsSolved};
 ghost use Rattle.tsn_conflict.specs.Kept.{AreConflictsOf};
-ghost use Rattle.tsn_node.specs.Outcome.{outcome_of};
-ghost use Rattle.tsn_node.specs.Path.{Fits};
+ghost use Rattle.tsn_conflict.specs.Outcome.{outcome_of};
+ghost use Rattle.tsn_conflict.specs.Path.{Fits};
 ghost use Rattle.tsn_branch.specs.Look.{IsLook, SplitsAmong, PrunesFrom, TiesWith};
-ghost use Rattle.tsn_node.specs.Right.{HasProof, SplitsUndecided};
+ghost use Rattle.tsn_conflict.specs.Right.{HasProof, SplitsUndecided};
 ghost use Rattle.tsn_branch.specs.Least.{IsLeastAbove, ComesWithSplit};
 
 mod arcs;
@@ -39,11 +39,11 @@ pub use setting::Setting;
 use std::alloc::Global;
 pub use supervisor::{LearnedNews, News, NoSupervisor, Phase, Supervisor};
 pub use tables::{Aim, Tables};
+use tsn_conflict::Node;
+use tsn_conflict::outcome::Look;
 use tsn_conflict::sharing::Conflicts;
 pub use tsn_diff::Least;
 use tsn_model::NoMemory;
-use tsn_node::Node;
-use tsn_node::outcome::Look;
 use tsn_timing::{Solved, Timing};
 
 /// Looks at a node: the first of these cases that holds.

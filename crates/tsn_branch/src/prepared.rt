@@ -10,9 +10,8 @@ use crate::loads::Loads;
 use crate::setting::Setting;
 use crate::tables::Tables;
 use std::alloc::Global;
-use tsn_conflict::conflicts;
 use tsn_conflict::sharing::Conflicts;
-use tsn_node::NoMemory;
+use tsn_conflict::{NoMemory, conflicts};
 use tsn_timing::{Problem, Timing};
 
 /// The times of a problem, its conflicts and the loads of its links.

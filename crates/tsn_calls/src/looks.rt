@@ -1,19 +1,19 @@
 //! Looks at the root and its two children.
 ghost use Rattle.std.specs.Prelude.{IfOk, IfSome};
 ghost use Rattle.tsn_conflict.specs.Kept.{AreConflictsOf};
-ghost use Rattle.tsn_node.specs.Right.{HasProof};
-ghost use Rattle.tsn_node.specs.Outcome.{outcome_of};
-ghost use Rattle.tsn_node.specs.Path.{Fits};
+ghost use Rattle.tsn_conflict.specs.Right.{HasProof};
+ghost use Rattle.tsn_conflict.specs.Outcome.{outcome_of};
+ghost use Rattle.tsn_conflict.specs.Path.{Fits};
 
 use crate::search::{child, worst};
 use crate::told::{NO_MEMORY, tell, tell_offsets};
 use std::alloc::Global;
 use tsn_book::Event;
 use tsn_branch::{Least, fits, look, look_from};
+use tsn_conflict::outcome::Look;
 use tsn_conflict::sharing::Conflicts;
+use tsn_conflict::{Node, Side, Triple};
 use tsn_model::NoMemory;
-use tsn_node::outcome::Look;
-use tsn_node::{Node, Side, Triple};
 use tsn_timing::Timing;
 
 /// Looks at the root, and tells its least offsets too.

@@ -4,8 +4,8 @@ ghost use Rattle.tsn_conflict.specs.Kept.{AreConflictsOf};
 use crate::{looks, settlements, steps};
 use std::alloc::Global;
 use tsn_conflict::sharing::Conflicts;
+use tsn_conflict::{Node, Side, Triple};
 use tsn_model::NoMemory;
-use tsn_node::{Node, Side, Triple};
 use tsn_timing::Timing;
 
 /// How many tellers there are, and how many nodes may be settled.

@@ -1,8 +1,8 @@
 //! Settles the root and both children in a book.
 ghost use Rattle.std.specs.Prelude.{◌≡◌, ◌<◌, IfOk, IfSome};
 ghost use Rattle.tsn_conflict.specs.Kept.{AreConflictsOf};
-ghost use Rattle.tsn_node.specs.Right.{HasProof};
-ghost use Rattle.tsn_node.specs.Outcome.{outcome_of};
+ghost use Rattle.tsn_conflict.specs.Right.{HasProof};
+ghost use Rattle.tsn_conflict.specs.Outcome.{outcome_of};
 
 use crate::looks::event_at;
 use crate::search::{LIMIT, TELLERS, child};
@@ -10,8 +10,8 @@ use crate::told::{NO_MEMORY, tell, tell_settled};
 use std::alloc::Global;
 use tsn_book::{Book, BookFault, Event, EventRefusal};
 use tsn_conflict::sharing::Conflicts;
+use tsn_conflict::{Node, Side, Triple};
 use tsn_model::NoMemory;
-use tsn_node::{Node, Side, Triple};
 use tsn_timing::Timing;
 
 pub fn call<R: Print + AllocGlobal>(

@@ -8,9 +8,9 @@ use crate::search::{LIMIT, TELLERS, child};
 use crate::told::{NO_MEMORY, tell, tell_quiet};
 use std::alloc::Global;
 use tsn_conflict::sharing::Conflicts;
+use tsn_conflict::{Node, Side, Triple};
 use tsn_core::{Core, Step};
 use tsn_model::NoMemory;
-use tsn_node::{Node, Side, Triple};
 use tsn_timing::Timing;
 
 // A node that a teller settles.

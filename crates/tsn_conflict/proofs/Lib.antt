@@ -7,3 +7,4 @@ pub mod Order
 pub mod ByStream
 pub mod Meeting
 pub mod Raised
+pub mod Paths

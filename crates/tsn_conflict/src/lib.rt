@@ -1,14 +1,18 @@
-//! The links that two streams share, and what going first on one of them asks of the offsets.
+//! The links that two streams share, and what going first on one of them asks of the offsets; and nodes of the search, which decide such
+//! conflicts and are known by their paths, with what a look at one finds.
 #![tactic(auto)]
 
 ghost use Rattle.std.specs.Prelude.{IfOk};
 ghost use Rattle.tsn_model.specs.Network.{HasFewStreams};
 ghost use Rattle.tsn_conflict.specs.Kept.{AreConflictsOf};
 
+mod chains;
 mod lags;
 pub mod laws;
 mod listing;
+pub mod node;
 mod numbers;
+pub mod outcome;
 mod pairs;
 pub mod sharing;
 mod uses;
@@ -18,8 +22,10 @@ use crate::numbers::numbers_of;
 use crate::pairs::pairs_of;
 use crate::sharing::Conflicts;
 use crate::uses::rows_of;
+pub use chains::whole_chains;
+pub use node::Node;
 use std::alloc::Global;
-pub use tsn_model::{Arc, NoMemory, Side, Triple};
+pub use tsn_model::{Arc, Decision, NoMemory, Side, Triple};
 use tsn_timing::Timing;
 
 /// The conflicts of a network of at most 128 streams. The error says that there was no memory.

@@ -15,8 +15,8 @@ use Rattle.tsn_model.specs.Order.{Precedes}
 use Rattle.tsn_model.specs.SearchLaws.{AreAcceptedTree}
 use Rattle.tsn_model.specs.Replies as replies
 use Rattle.tsn_model.specs.Replies.{found, recorded, refused_for, not_allowed, not_open, limit_met, not_conflict, already_decided, not_met, Answers, AnswersAll}
-use Rattle.tsn_node.specs.Outcome.{outcome_of}
-use Rattle.tsn_node.specs.Right.{HasProof}
+use Rattle.tsn_conflict.specs.Outcome.{outcome_of}
+use Rattle.tsn_conflict.specs.Right.{HasProof}
 use Rattle.tsn_book.specs.Event.{event_of}
 use Rattle.tsn_book.specs.Book.{Progress}
 use Rattle.tsn_book.specs.declared.fault.BookFault.TheVariants.{NotOpen, Limit, NotConflict, AlreadyDecided, Memory, NotMet}

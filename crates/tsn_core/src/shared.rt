@@ -3,16 +3,16 @@ ghost use Rattle.std.specs.Prelude.{◌≡◌, ◌≢◌, ◌<◌, ◌≤◌, �
 ghost use Rattle.tsn_model.specs.Search.{solved_bounds, settled_by, kept_of, tally_of};
 ghost use Rattle.tsn_model.specs.Schedule.{target_of};
 ghost use Rattle.tsn_model.specs.Core.{initial_state, observe, post, settle, teller_at, IsAboveSeen, IsSound, IsQuiet};
-ghost use Rattle.tsn_node.specs.Outcome.{outcome_of};
-ghost use Rattle.tsn_node.specs.Right.{HasProof};
+ghost use Rattle.tsn_conflict.specs.Outcome.{outcome_of};
+ghost use Rattle.tsn_conflict.specs.Right.{HasProof};
 ghost use Rattle.tsn_book.specs.Event.{event_of};
 ghost use Rattle.tsn_core.specs.Shared.{step_of, IsProved, IsReply, AreReplies, IsWanting, IsCutShort, IsTreeForKept, HasPostedAll};
 
 use std::alloc::{AllocError, Global};
 use std::marker::Model;
 use tsn_book::{Book, BookFault, Event, EventRefusal};
-use tsn_node::NoMemory;
-use tsn_node::outcome::Look;
+use tsn_conflict::NoMemory;
+use tsn_conflict::outcome::Look;
 use tsn_timing::Timing;
 
 /// One atomic step of the teller of that number.

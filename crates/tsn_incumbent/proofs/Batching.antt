@@ -6,7 +6,7 @@ use Rattle.tsn_model.specs.Network.{Network}
 use Rattle.tsn_model.specs.declared.Decision.{Decision}
 use Rattle.tsn_model.specs.Search.{Outcome, Event, Settlement, tally_of}
 use Rattle.tsn_model.proofs.Gathering.{tally-this, tally-another}
-use Rattle.tsn_node.specs.Outcome.{outcome_of}
+use Rattle.tsn_conflict.specs.Outcome.{outcome_of}
 use Rattle.tsn_model.specs.declared.Tally.{Tally}
 use Rattle.tsn_incumbent.specs.Halves.{Half, half}
 use Rattle.tsn_book.specs.Book.{Progress}

@@ -12,7 +12,7 @@ use Rattle.tsn_model.specs.declared.Tally.{Tally}
 use Rattle.tsn_incumbent.specs.Halves.{Half, half}
 use Rattle.tsn_incumbent.specs.Names.{Names}
 use Rattle.tsn_incumbent.specs.Teller.{head_of, Keeps, tally_with_all}
-use Rattle.tsn_node.specs.Outcome.{IsSolvedBy}
+use Rattle.tsn_conflict.specs.Outcome.{IsSolvedBy}
 
 -- what is worse than what was seen stays so where less is seen
 pub beyond_seen : (network : Network) (seen word bound : ℕ) → beyond network seen ≤ bound → beyond network (min seen word) ≤ bound

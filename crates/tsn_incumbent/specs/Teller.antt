@@ -8,7 +8,7 @@ use Rattle.std.specs.Prelude.{◌≡◌, ℕ, zero, suc, ◌<◌, ◌≤◌, fal
 use Rattle.tsn_model.specs.Network.{Network}
 use Rattle.tsn_model.specs.Certificate.{beyond}
 use Rattle.tsn_model.specs.Search.{Outcome, tally_as}
-use Rattle.tsn_node.specs.Outcome.{IsUnsolved}
+use Rattle.tsn_conflict.specs.Outcome.{IsUnsolved}
 use Rattle.tsn_model.specs.Gathering.{tally_with}
 use Rattle.tsn_incumbent.specs.Flowspans.{no_flowspan}
 use Rattle.tsn_incumbent.specs.Standings.{Seated, fresh, fresh_from}

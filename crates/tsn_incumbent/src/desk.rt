@@ -1,8 +1,8 @@
 //! What lies behind the lock: the book, and one half of each number's tally.
 ghost use Rattle.std.specs.Prelude.{◌≡◌, ◌<◌, ◌++◌, false, length, map, take, All, IfOk, IfErr, OnOk};
 ghost use Rattle.tsn_model.specs.Search.{tally_of};
-ghost use Rattle.tsn_node.specs.Outcome.{outcome_of};
-ghost use Rattle.tsn_node.specs.Right.{HasProof, SplitsUndecided};
+ghost use Rattle.tsn_conflict.specs.Outcome.{outcome_of};
+ghost use Rattle.tsn_conflict.specs.Right.{HasProof, SplitsUndecided};
 ghost use Rattle.tsn_incumbent.specs.Halves.{half};
 ghost use Rattle.tsn_book.specs.Book.{IsLawful};
 ghost use Rattle.tsn_book.specs.Below.{path_after, events_below, settlements_by, IsFaultAt};
@@ -15,7 +15,7 @@ use crate::names::Named;
 use std::alloc::Global;
 use std::marker::{Model, PhantomData};
 use tsn_book::{Book, Looks, WalkRefusal};
-use tsn_node::{NoMemory, Node};
+use tsn_conflict::{NoMemory, Node};
 use tsn_timing::Solved;
 
 /// Whose tally it is: the table of halves, and the number of the teller in it.

@@ -15,7 +15,7 @@ use std::alloc::{AllocError, Global};
 use std::marker::{Model, PhantomData};
 use std::sync::Mutex;
 use tsn_book::Book;
-use tsn_node::NoMemory;
+use tsn_conflict::NoMemory;
 use tsn_timing::Timing;
 
 /// All that tellers share, and what is theirs. Contracts see which search and which tables these are.

@@ -2,8 +2,8 @@
 ghost use Rattle.std.specs.Prelude.{◌≡◌, ◌≤◌, ◌<◌, ◌++◌, length, map, take, All, IfOk, IfErr, OnOk, OnErr};
 ghost use Rattle.tsn_model.specs.Core.{IsAboveSeen};
 ghost use Rattle.tsn_timing.specs.Solution.{IsSolved};
-ghost use Rattle.tsn_node.specs.Outcome.{outcome_of};
-ghost use Rattle.tsn_node.specs.Right.{HasProof, SplitsUndecided};
+ghost use Rattle.tsn_conflict.specs.Outcome.{outcome_of};
+ghost use Rattle.tsn_conflict.specs.Right.{HasProof, SplitsUndecided};
 ghost use Rattle.tsn_incumbent.specs.Flowspans.{IsIncumbent};
 ghost use Rattle.tsn_incumbent.specs.Standings.{saw, put};
 ghost use Rattle.tsn_book.specs.Book.{IsLawful};
@@ -22,7 +22,7 @@ use std::hint::spin_loop;
 use std::marker::Model;
 use std::sync::{Mutex, MutexGuard, Wait};
 use tsn_book::{Looks, WalkRefusal};
-use tsn_node::{NoMemory, Node};
+use tsn_conflict::{NoMemory, Node};
 use tsn_timing::Solved;
 
 // How often the lock is tried before a thread sleeps: for some tens of microseconds.

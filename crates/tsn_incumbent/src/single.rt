@@ -5,8 +5,8 @@ ghost use Rattle.tsn_model.specs.Core.{IsAboveSeen};
 ghost use Rattle.tsn_model.specs.Search.{tally_of};
 ghost use Rattle.tsn_model.specs.Gathering.{tally_with};
 ghost use Rattle.tsn_timing.specs.Solution.{IsSolved};
-ghost use Rattle.tsn_node.specs.Outcome.{outcome_of};
-ghost use Rattle.tsn_node.specs.Right.{HasProof};
+ghost use Rattle.tsn_conflict.specs.Outcome.{outcome_of};
+ghost use Rattle.tsn_conflict.specs.Right.{HasProof};
 ghost use Rattle.tsn_incumbent.specs.Flowspans.{IsIncumbent};
 ghost use Rattle.tsn_incumbent.specs.Halves.{half};
 ghost use Rattle.tsn_incumbent.specs.Standings.{put};
@@ -15,7 +15,7 @@ ghost use Rattle.tsn_book.specs.Book.{IsLawful, IsFault};
 ghost use Rattle.tsn_book.specs.Below.{settlements_by, IsFaultAt};
 ghost use Rattle.tsn_incumbent.specs.Names.{IsBookOf};
 ghost use Rattle.tsn_incumbent.specs.Teller.{IsEven, settled, settled_all, tally_with_all, OnlyLastSolved};
-ghost use Rattle.tsn_node.specs.Outcome.{IsSolvedBy};
+ghost use Rattle.tsn_conflict.specs.Outcome.{IsSolvedBy};
 ghost use Rattle.tsn_incumbent.specs.Desk.{IsReading, IsRefused, IsRefusedAt};
 
 use crate::desk::{Counts, Desk, Owner};
@@ -26,7 +26,7 @@ use crate::teller::Teller;
 use std::alloc::Global;
 use std::sync::Wait;
 use tsn_book::{BatchRefusal, Event, EventRefusal};
-use tsn_node::NoMemory;
+use tsn_conflict::NoMemory;
 use tsn_timing::Solved;
 
 /// Settles an event, where it may be, in one critical section; else a reason why not, with the event. A refusal changes

@@ -10,7 +10,7 @@ use Rattle.tsn_timing.specs.Solution.{Solution}
 use Rattle.tsn_model.specs.Gathering.{tally_with}
 use Rattle.tsn_model.specs.declared.Tally.{Tally}
 use Rattle.tsn_branch.specs.Look.{IsLook}
-use Rattle.tsn_node.specs.Outcome.{IsSolvedBy, IsUnsolved}
+use Rattle.tsn_conflict.specs.Outcome.{IsSolvedBy, IsUnsolved}
 use Rattle.tsn_incumbent.specs.Teller.{Known, IsEven, OnlyLastSolved}
 use Rattle.tsn_incumbent.specs.Gathered.{AreAll}
 use Rattle.tsn_tests_search.specs.Solving.{IsTied}

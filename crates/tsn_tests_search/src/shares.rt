@@ -4,8 +4,8 @@
 ghost use Rattle.std.specs.Prelude.{◌≡◌, ◌+◌, ◌<◌, ◌≤◌, ◌++◌, ◌∷◌, [], IfSome, option_copied};
 ghost use Rattle.tsn_model.specs.Search.{split};
 ghost use Rattle.tsn_timing.specs.Solution.{IsSolved};
-ghost use Rattle.tsn_node.specs.Outcome.{outcome_of, IsSolvedBy};
-ghost use Rattle.tsn_node.specs.Right.{HasProof};
+ghost use Rattle.tsn_conflict.specs.Outcome.{outcome_of, IsSolvedBy};
+ghost use Rattle.tsn_conflict.specs.Right.{HasProof};
 ghost use Rattle.tsn_branch.specs.Look.{IsLook};
 ghost use Rattle.tsn_incumbent.specs.Teller.{IsEven, fresh_teller};
 ghost use Rattle.tsn_tests_search.specs.Solving.{IsTied, the_conflict};
@@ -18,14 +18,13 @@ use tsn_book::{Book, Event};
 use tsn_branch::{fits, look};
 use tsn_cert::Cert;
 use tsn_codec::cert_to_json;
-use tsn_conflict::conflicts;
+use tsn_conflict::outcome::Look;
+use tsn_conflict::{Node, Side, Triple, conflicts};
 use tsn_incumbent::{
     Counts, EndedWord, Named, Parts, Shared, Teller, best_as, gather_unordered, observe_as,
     settle_all_as, settle_and_post, settle_as, with_book,
 };
 use tsn_networks::TWO;
-use tsn_node::outcome::Look;
-use tsn_node::{Node, Side, Triple};
 use tsn_timing::{Solved, Timing};
 
 /// Adds an item.

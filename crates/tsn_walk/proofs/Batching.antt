@@ -15,14 +15,14 @@ use Rattle.tsn_model.specs.Certificate.{beyond, decided}
 use Rattle.tsn_model.specs.Search.{Outcome, split, solved, pruned, tied, refuted, Event}
 use Rattle.tsn_model.specs.Core.{IsAboveSeen}
 use Rattle.tsn_timing.specs.Solution.{Solution}
-use Rattle.tsn_node.specs.Outcome.{outcome_of}
+use Rattle.tsn_conflict.specs.Outcome.{outcome_of}
 use Rattle.tsn_branch.specs.Look.{PrunesFrom}
-use Rattle.tsn_node.specs.Path.{Fits}
+use Rattle.tsn_conflict.specs.Path.{Fits}
 use Rattle.tsn_branch.specs.Descent.{Position, Stands, IsAfter, Closes}
-use Rattle.tsn_node.specs.declared.outcome.Look.{Look}
+use Rattle.tsn_conflict.specs.declared.outcome.Look.{Look}
 use Rattle.tsn_book.specs.Below.{next_path, after_leaf, path_after, events_below}
 use Rattle.tsn_book.proofs.Below.{events_below-more, path_after-more}
-use Rattle.tsn_node.specs.Outcome.{IsUnsolved}
+use Rattle.tsn_conflict.specs.Outcome.{IsUnsolved}
 use Rattle.tsn_walk.specs.Below.{StandsAt, IsProved, HoldsSchedule, EndsSolved, IsBatch}
 use Rattle.tsn_walk.specs.declared.below.Batch.{Batch}
 

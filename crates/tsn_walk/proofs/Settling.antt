@@ -10,7 +10,7 @@ use Rattle.tsn_model.proofs.Conflicts.{conflict_listed}
 use Rattle.tsn_conflict.specs.Kept.{Kept, AreConflictsOf}
 use Rattle.tsn_model.proofs.Histories.{open_is_made}
 use Rattle.tsn_model.proofs.Counting.{made_decides}
-use Rattle.tsn_node.specs.Path.{Fits}
+use Rattle.tsn_conflict.specs.Path.{Fits}
 use Rattle.tsn_timing.specs.Solution.{Solution, IsSolved}
 use Rattle.tsn_branch.specs.Look.{PrunesFrom, TiesWith}
 use Rattle.tsn_book.specs.Book.{IsMet}

@@ -9,12 +9,12 @@ use Rattle.tsn_model.specs.Network.{Network}
 use Rattle.tsn_model.specs.Search.{Outcome, split, solved, pruned, tied, refuted}
 use Rattle.tsn_model.specs.Core.{IsAboveSeen}
 use Rattle.tsn_timing.specs.Solution.{Solution, IsSolved}
-use Rattle.tsn_node.specs.Outcome.{outcome_of}
-use Rattle.tsn_node.specs.Path.{Fits}
-use Rattle.tsn_node.specs.Right.{HasProof, SplitsUndecided}
+use Rattle.tsn_conflict.specs.Outcome.{outcome_of}
+use Rattle.tsn_conflict.specs.Path.{Fits}
+use Rattle.tsn_conflict.specs.Right.{HasProof, SplitsUndecided}
 use Rattle.tsn_branch.specs.Descent.{Position, Stands}
 use Rattle.tsn_book.specs.Below.{events_below}
-use Rattle.tsn_node.specs.Outcome.{IsSolvedBy, IsUnsolved}
+use Rattle.tsn_conflict.specs.Outcome.{IsSolvedBy, IsUnsolved}
 use Rattle.tsn_walk.specs.declared.below.Below.{Below}
 use Rattle.tsn_walk.specs.declared.below.Batch.{Batch}
 

@@ -2,7 +2,7 @@
 //! what it hands out: a node that is lost stays open in the book, and one that comes twice is refused there.
 ghost use Rattle.std.specs.Prelude.{◌≡◌, IfErr};
 
-use tsn_node::Node;
+use tsn_conflict::Node;
 
 /// The nodes of one worker.
 pub trait Bag: Drop {

@@ -3,14 +3,14 @@ ghost use Rattle.std.specs.Prelude.{◌≡◌, ◌≤◌, true, false, None, map
 ghost use Rattle.tsn_model.specs.Network.{HasFewStreams};
 ghost use Rattle.tsn_timing.specs.Solution.{IsSolved};
 ghost use Rattle.tsn_conflict.specs.Kept.{AreConflictsOf};
-ghost use Rattle.tsn_node.specs.Outcome.{outcome_of};
+ghost use Rattle.tsn_conflict.specs.Outcome.{outcome_of};
 ghost use Rattle.tsn_model.specs.Certificate.{beyond};
 ghost use Rattle.tsn_model.specs.Search.{split};
 ghost use Rattle.tsn_branch.specs.Look.{PrunesFrom};
-ghost use Rattle.tsn_node.specs.Path.{IsUndecided};
+ghost use Rattle.tsn_conflict.specs.Path.{IsUndecided};
 ghost use Rattle.tsn_branch.specs.Descent.{Closes};
 ghost use Rattle.tsn_book.specs.Below.{next_path, path_after};
-ghost use Rattle.tsn_node.specs.Outcome.{IsUnsolved};
+ghost use Rattle.tsn_conflict.specs.Outcome.{IsUnsolved};
 ghost use Rattle.tsn_walk.specs.Below.{StandsAt, IsBelow, IsBatch, IsProved, HoldsSchedule, IsScheduleOf};
 
 use crate::bag::Bag;
@@ -19,9 +19,9 @@ use std::alloc::Global;
 use std::mem;
 use tsn_book::{Book, Looks};
 use tsn_branch::{Aim, Descent, Tables, fits};
+use tsn_conflict::outcome::Look;
 use tsn_conflict::sharing::Conflicts;
-use tsn_node::outcome::Look;
-use tsn_node::{Decision, NoMemory, Node, Side, Triple};
+use tsn_conflict::{Decision, NoMemory, Node, Side, Triple};
 use tsn_timing::{Solved, Timing};
 
 /// How many nodes are settled at a time, at most.

@@ -1,6 +1,6 @@
 //! What a supervisor is told.
 use tsn_book::Looks;
-use tsn_node::outcome::Look;
+use tsn_conflict::outcome::Look;
 use tsn_timing::Timing;
 
 /// A flowspan, where it is one and not what stands for none.

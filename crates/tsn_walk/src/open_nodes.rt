@@ -3,7 +3,7 @@ ghost use Rattle.std.specs.Prelude.{◌<◌, length};
 
 use crate::bag::Bag;
 use std::alloc::Global;
-use tsn_node::Node;
+use tsn_conflict::Node;
 
 /// The nodes that are open, the first in preorder last.
 #[derive(Drop)]

@@ -1,8 +1,8 @@
 //! The search in a book of one's own: an open node is taken, and all that is open below it is settled, again and again.
 ghost use Rattle.std.specs.Prelude.{◌≡◌, ◌<◌, ◌≤◌, ◌+◌, ◌⊎◌, true, [], length, Contains, IfOk, IfSome, OnOk, MatchBool};
 ghost use Rattle.tsn_model.specs.Search.{open_paths};
-ghost use Rattle.tsn_node.specs.Outcome.{outcome_of};
-ghost use Rattle.tsn_node.specs.Right.{HasProof, SplitsUndecided};
+ghost use Rattle.tsn_conflict.specs.Outcome.{outcome_of};
+ghost use Rattle.tsn_conflict.specs.Right.{HasProof, SplitsUndecided};
 ghost use Rattle.tsn_book.specs.Book.{IsMet};
 ghost use Rattle.tsn_walk.specs.Search.{IsSearchBy, IsFurther};
 ghost use Rattle.tsn_walk.specs.Below.{IsBelow, IsBatch, outcomes_of};
@@ -16,7 +16,7 @@ use crate::open_nodes::OpenNodes;
 use tsn_book::{Book, BookFault, Event, EventRefusal};
 use tsn_branch::supervisor::{News, Supervisor};
 use tsn_branch::{Setting, look};
-use tsn_node::{NoMemory, Node};
+use tsn_conflict::{NoMemory, Node};
 
 // One who settles nodes in a book: by which number, and until how many are settled in all.
 #[derive(Drop)]

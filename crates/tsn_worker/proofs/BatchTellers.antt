@@ -12,7 +12,7 @@ use Rattle.tsn_timing.specs.Solution.{Solution, IsSolved}
 use Rattle.tsn_model.specs.Gathering.{tally_with}
 use Rattle.tsn_model.specs.declared.Tally.{Tally}
 use Rattle.tsn_incumbent.specs.Teller.{OnlyLastSolved, Known, IsEven, settled_all, tally_with_all}
-use Rattle.tsn_node.specs.Outcome.{IsSolvedBy, IsUnsolved}
+use Rattle.tsn_conflict.specs.Outcome.{IsSolvedBy, IsUnsolved}
 use Rattle.tsn_walk.specs.Below.{EndsSolved}
 
 -- what isn't solved leaves the least flowspan solved

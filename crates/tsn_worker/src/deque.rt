@@ -3,8 +3,8 @@ ghost use Rattle.std.specs.Prelude.{◌≡◌, vec_len, IfOk};
 
 use crossbeam_deque::{Steal, Stealer, Worker};
 use std::alloc::{AllocError, Global};
+use tsn_conflict::Node;
 use tsn_model::NoMemory;
-use tsn_node::Node;
 use tsn_walk::Bag;
 
 // How many nodes a bag has room for at first.

@@ -8,8 +8,8 @@ use crate::context::Context;
 use crate::settler::Settler;
 use std::sync::Wait;
 use tsn_branch::supervisor::Supervisor;
+use tsn_conflict::NoMemory;
 use tsn_incumbent::Named;
-use tsn_node::NoMemory;
 use tsn_walk::{Below, OpenNodes};
 
 /// Settles nodes, each by itself: those on the way that a known schedule keeps to, where there is one, or else first open ones until

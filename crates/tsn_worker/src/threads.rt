@@ -17,8 +17,8 @@ use std::thread::Threads;
 use tsn_book::Book;
 use tsn_branch::Setting;
 use tsn_branch::supervisor::Supervisor;
+use tsn_conflict::NoMemory;
 use tsn_incumbent::{EndedWord, Named, Parts, Teller, gather};
-use tsn_node::NoMemory;
 use tsn_walk::Bag;
 
 /// The caller begins, along a schedule where one is known, the workers go on, one a bag, and what all have settled is gathered: the

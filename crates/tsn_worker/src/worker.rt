@@ -10,8 +10,8 @@ use crate::settler::Settler;
 use std::sync::Wait;
 use std::thread;
 use tsn_branch::supervisor::Supervisor;
+use tsn_conflict::Node;
 use tsn_incumbent::Named;
-use tsn_node::Node;
 use tsn_walk::{BATCH, Bag, Below};
 
 // A worker ends after so many rounds in turn in which it found no node.

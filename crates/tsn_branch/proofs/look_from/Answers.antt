@@ -3,8 +3,8 @@ use Rattle.std.specs.Prelude.{Option, option_copied}
 use Rattle.std.proofs.Common.{arith}
 use Rattle.std.proofs.lemmas.Grind.{common_steps}
 use Rattle.tsn_diff.specs.Offsets.{LeastOffsets}
-use Rattle.tsn_node.specs.declared.outcome.Look.{Look}
-use Rattle.tsn_node.specs.Outcome.{outcome_of}
+use Rattle.tsn_conflict.specs.declared.outcome.Look.{Look}
+use Rattle.tsn_conflict.specs.Outcome.{outcome_of}
 use Rattle.tsn_branch.proofs.Rights.{HasProof-from, SplitsUndecided-from, SplitsAmong-from, PrunesFrom-from, TiesWith-from}
 use Rattle.tsn_branch.proofs.look_from.Goals as goal
 

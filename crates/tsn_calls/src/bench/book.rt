@@ -1,17 +1,16 @@
 //! A book of splits: the nodes of a tree in which the first conflicts are decided in order, a level after another.
 ghost use Rattle.std.specs.Prelude.{◌≡◌, ◌≤◌, ◌<◌, ◌+◌, IfSome, IsTrue};
-ghost use Rattle.tsn_node.specs.Path.{IsUndecided};
+ghost use Rattle.tsn_conflict.specs.Path.{IsUndecided};
 
 use std::alloc::{AllocError, Global};
 use std::io;
 use std::rt::Clock;
 use std::time::Instant;
 use tsn_book::{Book, Event};
-use tsn_conflict::conflicts;
+use tsn_conflict::outcome::Look;
 use tsn_conflict::sharing::Conflicts;
+use tsn_conflict::{Decision, NoMemory, Node, Side, Triple, conflicts};
 use tsn_net::read_problem;
-use tsn_node::outcome::Look;
-use tsn_node::{Decision, NoMemory, Node, Side, Triple};
 use tsn_timing::Timing;
 
 // How many events are made before they are settled.

@@ -7,11 +7,10 @@ use std::process::Abort;
 use std::test::*;
 use tsn_branch::fits;
 use tsn_cert::{Chain, Entries, Leaf, LowerBound};
-use tsn_conflict::conflicts;
+use tsn_conflict::outcome::Look;
+use tsn_conflict::{Node, Triple, conflicts, whole_chains};
 use tsn_diff::Forest;
 use tsn_networks::{LINE, LOOP, ONE, TWO};
-use tsn_node::outcome::Look;
-use tsn_node::{Node, Triple, whole_chains};
 use tsn_timing::{Solved, Timing};
 
 fn look_text<R: Abort + AllocGlobal>(rt: &R, look: &Look) -> String {

@@ -4,19 +4,18 @@
 ghost use Rattle.std.specs.Prelude.{◌≡◌, ◌-◌, IfSome, length, option_copied, take};
 ghost use Rattle.tsn_branch.specs.Least.{ComesWithSplit, IsLeastAbove};
 ghost use Rattle.tsn_conflict.specs.Kept.{AreConflictsOf};
-ghost use Rattle.tsn_node.specs.Path.{IsUndecided};
+ghost use Rattle.tsn_conflict.specs.Path.{IsUndecided};
 ghost use Rattle.tsn_timing.specs.Solution.{IsSolved};
-ghost use Rattle.tsn_node.specs.Outcome.{outcome_of};
-ghost use Rattle.tsn_node.specs.Right.{HasProof, SplitsUndecided};
+ghost use Rattle.tsn_conflict.specs.Outcome.{outcome_of};
+ghost use Rattle.tsn_conflict.specs.Right.{HasProof, SplitsUndecided};
 
 use crate::nodes::rows::{cut, number, numbers, place};
 use std::process::Abort;
 use tsn_book::Event;
 use tsn_branch::{Least, fits, look, look_from};
-use tsn_conflict::conflicts;
+use tsn_conflict::outcome::Look;
 use tsn_conflict::sharing::Conflicts;
-use tsn_node::outcome::Look;
-use tsn_node::{Node, Side, Triple};
+use tsn_conflict::{Node, Side, Triple, conflicts};
 use tsn_timing::{Solved, Timing};
 
 /// Which of the first two streams goes first on a link, with a lag of 0.

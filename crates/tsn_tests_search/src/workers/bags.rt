@@ -3,7 +3,7 @@
 use std::alloc::Global;
 use std::sync::atomic::{AtomicU64, Ordering};
 use std::test::Fail;
-use tsn_node::{NoMemory, Node, Side, Triple};
+use tsn_conflict::{NoMemory, Node, Side, Triple};
 use tsn_worker::{Bag, DequeBag};
 
 /// A stack that notes which node is pushed first: a digit for each decision, 1 for Left and 2 for Right.

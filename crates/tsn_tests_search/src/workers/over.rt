@@ -6,8 +6,8 @@ use crate::workers::planner::{expect, planned_over};
 use crate::workers::witness::{Order, Witness};
 use std::sync::atomic::{AtomicU64, Ordering};
 use std::test::*;
+use tsn_conflict::Node;
 use tsn_networks::{TEN, TWO};
-use tsn_node::Node;
 use tsn_worker::{Bag, DequeBag, NoSupervisor};
 
 const WORKERS: usize = 4;

@@ -5,7 +5,7 @@ use Rattle.tsn_model.specs.Certificate.{tie_node}
 use Rattle.tsn_timing.specs.Solution.{IsSolved}
 use Rattle.tsn_model.specs.Order.{node_of}
 use Rattle.tsn_cert.specs.Leaf.{bound_leaf}
-use Rattle.tsn_node.specs.Outcome.{outcome_of}
+use Rattle.tsn_conflict.specs.Outcome.{outcome_of}
 use Rattle.tsn_book.specs.Book.{planned, HasTie}
 use Rattle.tsn_book.proofs.Answering.{ok_as}
 use Rattle.tsn_book.proofs.Tying.{solved_even, solved_apart, solved_alone, tied_even, tied_apart}

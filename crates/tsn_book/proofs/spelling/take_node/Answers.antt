@@ -1,7 +1,7 @@
 use Rattle.std.proofs.Common.{pos, sym, subst}
 use Rattle.std.specs.Prelude.{option_copied}
-use Rattle.tsn_node.specs.declared.outcome.Look.TheVariants.{Split as FoundSplit}
-use Rattle.tsn_node.specs.Outcome.{outcome_of}
+use Rattle.tsn_conflict.specs.declared.outcome.Look.TheVariants.{Split as FoundSplit}
+use Rattle.tsn_conflict.specs.Outcome.{outcome_of}
 use Rattle.tsn_book.specs.declared.log.Settled.{Settled}
 use Rattle.tsn_book.specs.Book.{HasTie}
 use Rattle.tsn_book.proofs.spelling.take_node.Goals as goal

@@ -3,7 +3,7 @@ use Rattle.std.proofs.lemmas.List.{take_all, take_more}
 use Rattle.std.proofs.lemmas.List.Elements.{All-push}
 use Rattle.tsn_model.specs.declared.Decision.{Decision}
 use Rattle.tsn_model.specs.declared.Side.TheVariants.{Left}
-use Rattle.tsn_node.specs.Path.{Fits}
+use Rattle.tsn_conflict.specs.Path.{Fits}
 use Rattle.tsn_branch.proofs.arcs.fits.Goals as goal
 
 abbrev no_decision : Decision

@@ -1,5 +1,5 @@
 use Rattle.std.proofs.Common.{take}
-use Rattle.tsn_node.specs.Path.{Fits}
+use Rattle.tsn_conflict.specs.Path.{Fits}
 use Rattle.tsn_branch.proofs.arcs.fits.Given as goal
 
 abbrev pub invariant-loop-decision : goal.invariant-loop-decision

@@ -13,9 +13,9 @@ use Rattle.tsn_diff.specs.declared.solve.Feasibility.{Feasibility}
 use Rattle.tsn_diff.specs.Offsets.{LeastOffsets}
 use Rattle.tsn_diff.specs.Answers.{Answers, Solves}
 use Rattle.tsn_branch.specs.Releases.{releases_of}
-use Rattle.tsn_node.specs.Path.{Fits}
+use Rattle.tsn_conflict.specs.Path.{Fits}
 use Rattle.tsn_branch.specs.Least.{IsLeastAbove}
-use Rattle.tsn_node.proofs.Paths.{by_last}
+use Rattle.tsn_conflict.proofs.Paths.{by_last}
 use Rattle.tsn_branch.proofs.arcs.least_at.Goals as goal
 
 -- the arcs of all decisions but the last, and the last one's

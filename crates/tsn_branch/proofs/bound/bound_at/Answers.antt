@@ -1,6 +1,6 @@
 use Rattle.std.proofs.Common.{subst}
-use Rattle.tsn_node.specs.Outcome.{outcome_of}
-use Rattle.tsn_node.specs.Right.{HasProof}
+use Rattle.tsn_conflict.specs.Outcome.{outcome_of}
+use Rattle.tsn_conflict.specs.Right.{HasProof}
 use Rattle.tsn_branch.proofs.Bounds.{lower_bound_by}
 use Rattle.tsn_branch.proofs.bound.bound_at.Goals as goal
 

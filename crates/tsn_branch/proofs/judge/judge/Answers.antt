@@ -12,7 +12,7 @@ use Rattle.tsn_conflict.specs.Raised.{triple_at}
 use Rattle.tsn_diff.specs.Answers.{Answers}
 use Rattle.tsn_branch.specs.Releases.{releases_of}
 use Rattle.tsn_branch.specs.Least.{ComesWithSplit}
-use Rattle.tsn_node.specs.Outcome.{outcome_of}
+use Rattle.tsn_conflict.specs.Outcome.{outcome_of}
 use Rattle.tsn_branch.specs.Look.{IsLook, IsRefutation}
 use Rattle.tsn_branch.specs.Descent.{Closes, IsJudgement}
 use Rattle.tsn_branch.proofs.Leasts.{IsRefutation-from}

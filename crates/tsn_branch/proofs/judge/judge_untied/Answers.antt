@@ -5,7 +5,7 @@ use Rattle.tsn_model.specs.Schedule.{IsFirstOverlap}
 use Rattle.tsn_model.specs.Arcs.{conflicts_of}
 use Rattle.tsn_conflict.specs.Raised.{OnlyRaisedOverlap, triple_at}
 use Rattle.tsn_branch.proofs.Leasts.{count, AreLeast-from, small_offsets, least_same}
-use Rattle.tsn_node.specs.Outcome.{outcome_of}
+use Rattle.tsn_conflict.specs.Outcome.{outcome_of}
 use Rattle.tsn_branch.specs.Descent.{IsSplitPointBy, IsSolution}
 use Rattle.tsn_branch.proofs.Judgements.{solution_found}
 use Rattle.tsn_branch.proofs.judge.judge_untied.Goals as goal

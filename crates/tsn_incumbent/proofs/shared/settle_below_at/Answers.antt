@@ -3,7 +3,7 @@ use Rattle.std.specs.Prelude.{All, OnOk, IfErr}
 use Rattle.std.proofs.lemmas.Grind.{elements}
 use Rattle.tsn_model.specs.Search.{tally_of}
 use Rattle.tsn_model.specs.Core.{IsAboveSeen}
-use Rattle.tsn_node.specs.Outcome.{outcome_of}
+use Rattle.tsn_conflict.specs.Outcome.{outcome_of}
 use Rattle.tsn_book.specs.declared.refusal.WalkRefusal.{WalkRefusal}
 use Rattle.tsn_book.specs.Below.{path_after, events_below, settlements_by}
 use Rattle.tsn_incumbent.specs.Teller.{Known, head_of, settled_all}

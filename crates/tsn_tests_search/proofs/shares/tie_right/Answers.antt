@@ -1,5 +1,5 @@
 use Rattle.std.proofs.Common.{List, map, sym, subst}
-use Rattle.tsn_node.specs.Outcome.{outcome_of}
+use Rattle.tsn_conflict.specs.Outcome.{outcome_of}
 use Rattle.tsn_book.specs.declared.event.Event.{Event}
 use Rattle.tsn_incumbent.specs.Teller.{OnlyLastSolved}
 use Rattle.tsn_tests_search.proofs.Solving.{last_of_one}

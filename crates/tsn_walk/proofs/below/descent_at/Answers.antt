@@ -1,5 +1,5 @@
 use Rattle.std.proofs.Common.{sym, subst}
-use Rattle.tsn_node.specs.Path.{Fits}
+use Rattle.tsn_conflict.specs.Path.{Fits}
 use Rattle.tsn_walk.proofs.Batching.{begun_at}
 use Rattle.tsn_walk.proofs.below.descent_at.Goals as goal
 

@@ -1,8 +1,8 @@
 use Rattle.std.proofs.Common.{sym, ap, ◌∙◌, subst}
 use Rattle.tsn_model.specs.declared.Side.TheVariants.{Left}
 use Rattle.tsn_model.specs.Certificate.{decided}
-use Rattle.tsn_node.specs.Outcome.{outcome_of}
-use Rattle.tsn_node.specs.Path.{Fits}
+use Rattle.tsn_conflict.specs.Outcome.{outcome_of}
+use Rattle.tsn_conflict.specs.Path.{Fits}
 use Rattle.tsn_branch.specs.Look.{SplitsAmong}
 use Rattle.tsn_branch.specs.Descent.{IsAfter}
 use Rattle.tsn_walk.proofs.Batching.{walked_over, walked_down}

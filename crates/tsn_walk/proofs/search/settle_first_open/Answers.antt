@@ -1,6 +1,6 @@
 use Rattle.std.proofs.Common.{sym, ap, ◌∙◌, subst}
 use Rattle.tsn_model.specs.Certificate.{beyond}
-use Rattle.tsn_node.specs.Outcome.{outcome_of}
+use Rattle.tsn_conflict.specs.Outcome.{outcome_of}
 use Rattle.tsn_book.specs.Book.{IsMet}
 use Rattle.tsn_walk.proofs.Settling.{open_fits, lent_met}
 use Rattle.tsn_walk.proofs.search.settle_first_open.Goals as goal

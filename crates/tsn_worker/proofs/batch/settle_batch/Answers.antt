@@ -1,7 +1,7 @@
 use Rattle.std.proofs.Common.{map, take, sym, ap, ◌∙◌, arith}
 use Rattle.std.proofs.lemmas.List.{length-map}
 use Rattle.std.proofs.lemmas.Grind.{elements}
-use Rattle.tsn_node.specs.Outcome.{outcome_of}
+use Rattle.tsn_conflict.specs.Outcome.{outcome_of}
 use Rattle.tsn_incumbent.specs.Teller.{Known}
 use Rattle.tsn_worker.proofs.BatchTellers.{only_last_solved, solved_least, unsolved_all, few_unsolved}
 use Rattle.tsn_worker.proofs.batch.settle_batch.Goals as goal

@@ -1,7 +1,7 @@
 use Rattle.std.proofs.Common.{subst, arith}
 use Rattle.std.proofs.lemmas.Result.{err_from_is_err_and}
 use Rattle.std.proofs.lemmas.Grind.{common_steps}
-use Rattle.tsn_node.specs.Outcome.{outcome_of}
+use Rattle.tsn_conflict.specs.Outcome.{outcome_of}
 use Rattle.tsn_book.specs.Arena.{path_at, paths_of, history_of}
 use Rattle.tsn_book.specs.Book.{IsFault, IsMet}
 use Rattle.tsn_book.proofs.Asking.{open_stop, right_from}

@@ -1,5 +1,5 @@
 use Rattle.std.proofs.Common.{◌≡◌, arith, sym, ◌∙◌, subst}
-use Rattle.tsn_node.specs.Outcome.{outcome_of}
+use Rattle.tsn_conflict.specs.Outcome.{outcome_of}
 use Rattle.tsn_book.specs.Arena.{history_of}
 use Rattle.tsn_book.specs.Book.{IsKept}
 use Rattle.tsn_book.proofs.Bookkeeping.{kept_is_stored, kept_best, tree_keeps, HasSolution}

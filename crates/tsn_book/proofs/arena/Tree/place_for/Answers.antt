@@ -3,8 +3,8 @@ use Rattle.std.proofs.lemmas.Result.{err_from_is_err_and}
 use Rattle.std.proofs.lemmas.Grind.{common_steps}
 use Rattle.tsn_model.specs.Schedule.{IsConflict}
 use Rattle.tsn_model.specs.Replies.{SplitsNone, SplitsAgain}
-use Rattle.tsn_node.specs.Outcome.{outcome_of}
-use Rattle.tsn_node.specs.Right.{SplitsUndecided}
+use Rattle.tsn_conflict.specs.Outcome.{outcome_of}
+use Rattle.tsn_conflict.specs.Right.{SplitsUndecided}
 use Rattle.tsn_book.specs.Arena.{path_at, paths_of, history_of, IsOpenPlace, IsPathEnd}
 use Rattle.tsn_book.specs.Book.{IsFault, IsMet}
 use Rattle.tsn_book.proofs.Asking.{open_stop, undecided, right_from, splits_nothing}

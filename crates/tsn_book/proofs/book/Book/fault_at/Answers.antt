@@ -1,8 +1,8 @@
 use Rattle.std.proofs.Common.{◌<◌, length, arith, sym, ap, ◌∙◌, subst}
 use Rattle.tsn_model.specs.Search.{made_paths, IsAllowed}
 use Rattle.tsn_model.specs.Walk.{path_made}
-use Rattle.tsn_node.specs.Outcome.{outcome_of}
-use Rattle.tsn_node.specs.Right.{HasProof, SplitsUndecided}
+use Rattle.tsn_conflict.specs.Outcome.{outcome_of}
+use Rattle.tsn_conflict.specs.Right.{HasProof, SplitsUndecided}
 use Rattle.tsn_book.specs.Arena.{history_of}
 use Rattle.tsn_book.specs.Book.{Progress, IsFault}
 use Rattle.tsn_book.proofs.Asking.{length-made, path_made-at}

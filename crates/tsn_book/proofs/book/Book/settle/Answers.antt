@@ -2,7 +2,7 @@ use Rattle.std.proofs.Common.{◌≡◌, ◌++◌, ◌∷◌, [], length, arith,
 use Rattle.std.proofs.lemmas.Grind.{common_steps}
 use Rattle.tsn_model.specs.Search.{made_paths, IsAllowed}
 use Rattle.tsn_model.specs.Walk.{path_made}
-use Rattle.tsn_node.specs.Outcome.{outcome_of}
+use Rattle.tsn_conflict.specs.Outcome.{outcome_of}
 use Rattle.tsn_book.specs.Arena.{history_of, IsOpenPlace}
 use Rattle.tsn_book.specs.Book.{Progress}
 use Rattle.tsn_book.proofs.Asking.{length-made, path_made-at}

@@ -3,8 +3,8 @@ use Rattle.std.specs.Prelude.{All}
 use Rattle.std.proofs.lemmas.List.{map-append}
 use Rattle.std.proofs.lemmas.Grind.{common_steps}
 use Rattle.tsn_model.specs.Network.{Network}
-use Rattle.tsn_node.specs.Outcome.{outcome_of}
-use Rattle.tsn_node.specs.Right.{HasProof}
+use Rattle.tsn_conflict.specs.Outcome.{outcome_of}
+use Rattle.tsn_conflict.specs.Right.{HasProof}
 use Rattle.tsn_book.specs.declared.event.Event.{Event}
 use Rattle.tsn_book.specs.Event.{event_of}
 use Rattle.tsn_book.specs.Book.{Progress, IsFault}

@@ -5,9 +5,9 @@ use Rattle.std.proofs.lemmas.Grind.{common_steps}
 use Rattle.tsn_model.specs.declared.Decision.{Decision}
 use Rattle.tsn_model.specs.Search.{Event, Outcome}
 use Rattle.tsn_model.specs.Walk.{path_made}
-use Rattle.tsn_node.specs.declared.outcome.Look.{Look}
-use Rattle.tsn_node.specs.Outcome.{outcome_of}
-use Rattle.tsn_node.specs.Right.{HasProof, SplitsUndecided}
+use Rattle.tsn_conflict.specs.declared.outcome.Look.{Look}
+use Rattle.tsn_conflict.specs.Outcome.{outcome_of}
+use Rattle.tsn_conflict.specs.Right.{HasProof, SplitsUndecided}
 use Rattle.tsn_book.specs.Book.{Progress, IsFault, IsLawful}
 use Rattle.tsn_book.proofs.Below.{none_below, refused_first, first_below, first_refused, first_waits}
 use Rattle.tsn_book.proofs.Ledgers.{ledger_lawful, same_progress, progress_by}

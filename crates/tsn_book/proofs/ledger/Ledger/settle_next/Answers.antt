@@ -5,8 +5,8 @@ use Rattle.tsn_model.specs.declared.Decision.{Decision}
 use Rattle.tsn_model.specs.Search.{Settlement}
 use Rattle.tsn_model.specs.Walk.{IsPlaceOf}
 use Rattle.tsn_model.proofs.Walking.{place_stays}
-use Rattle.tsn_node.specs.declared.outcome.Look.{Look}
-use Rattle.tsn_node.specs.Outcome.{outcome_of}
+use Rattle.tsn_conflict.specs.declared.outcome.Look.{Look}
+use Rattle.tsn_conflict.specs.Outcome.{outcome_of}
 use Rattle.tsn_book.specs.Arena.{settled_in, IsLeafOutcome}
 use Rattle.tsn_book.specs.Book.{Progress}
 use Rattle.tsn_book.specs.Below.{next_path}

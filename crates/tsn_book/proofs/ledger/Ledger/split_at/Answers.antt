@@ -5,9 +5,9 @@ use Rattle.tsn_model.specs.declared.Side.TheVariants.{Left}
 use Rattle.tsn_model.specs.Search.{split}
 use Rattle.tsn_model.proofs.Decisions.{length-decided, take-decided}
 use Rattle.tsn_model.specs.Walk.{IsPlaceOf}
-use Rattle.tsn_node.specs.Right.{SplitsUndecided}
-use Rattle.tsn_node.specs.declared.outcome.Look.{Look}
-use Rattle.tsn_node.specs.Outcome.{outcome_of}
+use Rattle.tsn_conflict.specs.Right.{SplitsUndecided}
+use Rattle.tsn_conflict.specs.declared.outcome.Look.{Look}
+use Rattle.tsn_conflict.specs.Outcome.{outcome_of}
 use Rattle.tsn_book.specs.Arena.{settled_in}
 use Rattle.tsn_book.specs.Book.{Progress, IsFault}
 use Rattle.tsn_book.specs.Ledger.{progress_of, next_outcome, with_one}

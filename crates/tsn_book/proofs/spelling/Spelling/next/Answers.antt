@@ -5,7 +5,7 @@ use Rattle.std.proofs.lemmas.Result.{err_from_is_err_and}
 use Rattle.tsn_cert.specs.Node.{tree_node}
 use Rattle.tsn_cert.specs.declared.cert.Cert.{Cert}
 use Rattle.tsn_model.specs.Order.{node_of}
-use Rattle.tsn_node.specs.Outcome.{outcome_of}
+use Rattle.tsn_conflict.specs.Outcome.{outcome_of}
 use Rattle.tsn_book.specs.Book.{planned}
 use Rattle.tsn_book.proofs.Answering.{where_err}
 use Rattle.tsn_book.proofs.Giving.{next_known, next_nodes, next_left}

@@ -5,7 +5,7 @@ use Rattle.tsn_model.specs.declared.Decision.{Decision}
 use Rattle.std.proofs.lemmas.List.{get_or_default}
 use Rattle.tsn_branch.specs.Descent.{Leads}
 use Rattle.tsn_model.proofs.Decisions.{length-arcs_of}
-use Rattle.tsn_node.proofs.Paths.{by_last}
+use Rattle.tsn_conflict.proofs.Paths.{by_last}
 use Rattle.tsn_branch.proofs.Positions.{stands_back}
 use Rattle.tsn_branch.proofs.descent.Descent.draw_back.Goals as goal
 

@@ -10,8 +10,8 @@ use Rattle.tsn_diff.specs.Stack.{Stack}
 use Rattle.std.specs.Prelude.{Contains, IfNone, IfOk, IfSome, MatchOption, OnErr, OnSome}
 use Rattle.tsn_branch.specs.Releases.{releases_of}
 use Rattle.tsn_branch.specs.Descent.{Position, Stands}
-use Rattle.tsn_node.specs.Path.{Fits}
-use Rattle.tsn_node.proofs.Paths.{by_last}
+use Rattle.tsn_conflict.specs.Path.{Fits}
+use Rattle.tsn_conflict.proofs.Paths.{by_last}
 use Rattle.tsn_branch.proofs.Positions.{Puts, leads_down, refutes_down}
 use Rattle.tsn_branch.proofs.descent.Descent.lead.Goals as goal
 

@@ -7,7 +7,7 @@ use Rattle.tsn_model.specs.declared.Decision.{Decision}
 use Rattle.tsn_model.specs.Certificate.{decided}
 use Rattle.tsn_model.specs.Places.{pending}
 use Rattle.tsn_model.proofs.Places.{pending-left, pending-right}
-use Rattle.tsn_node.specs.Path.{Fits}
+use Rattle.tsn_conflict.specs.Path.{Fits}
 use Rattle.tsn_branch.specs.Descent.{Position, Stands}
 use Rattle.tsn_model.proofs.Decisions.{length-decided, take-decided}
 use Rattle.tsn_branch.proofs.Descents.{fits_turned, take-inner, kept_turned}

@@ -2,7 +2,7 @@ use Rattle.std.proofs.Common.{◌≡◌, List, length, take}
 use Rattle.tsn_model.specs.Network.{Network}
 use Rattle.tsn_model.specs.Places.{pending}
 use Rattle.tsn_model.specs.declared.Triple.{Triple}
-use Rattle.tsn_node.specs.Path.{Fits}
+use Rattle.tsn_conflict.specs.Path.{Fits}
 use Rattle.tsn_branch.specs.Descent.{Stands}
 use Rattle.tsn_branch.proofs.descent.Descent.next_under.Given as goal
 

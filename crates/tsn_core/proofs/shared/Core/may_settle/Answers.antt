@@ -1,7 +1,7 @@
 use Rattle.std.proofs.Common.{◌≡◌, ◌<◌, length, sym, subst, arith}
 use Rattle.std.specs.Prelude.{IsTrue}
 use Rattle.tsn_model.specs.Core.{teller_at, IsAboveSeen}
-use Rattle.tsn_node.specs.Outcome.{outcome_of}
+use Rattle.tsn_conflict.specs.Outcome.{outcome_of}
 use Rattle.tsn_core.specs.Shared.{Shared}
 use Rattle.tsn_core.proofs.Sharing.{state_of, seen_at}
 use Rattle.tsn_core.proofs.shared.Core.may_settle.Goals as goal

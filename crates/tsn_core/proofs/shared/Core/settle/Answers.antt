@@ -4,7 +4,7 @@ use Rattle.std.proofs.lemmas.Result.{MatchResult-weaker}
 use Rattle.tsn_model.specs.declared.NoMemory.{NoMemory}
 use Rattle.tsn_model.specs.Core.{State, settle, teller_at, IsAboveSeen}
 use Rattle.tsn_model.specs.Replies.{recorded}
-use Rattle.tsn_node.specs.Outcome.{outcome_of}
+use Rattle.tsn_conflict.specs.Outcome.{outcome_of}
 use Rattle.tsn_core.specs.declared.shared.Reply.{Reply}
 use Rattle.tsn_core.specs.declared.shared.Reply.TheVariants.{Settled, Refused}
 use Rattle.tsn_book.specs.Event.{event_of}

@@ -2,7 +2,7 @@ use Rattle.std.proofs.Common.{◌≡◌, ◌<◌, map, take, length, rules, ap, 
 use Rattle.std.proofs.lemmas.Grind.{elements}
 use Rattle.tsn_model.specs.Network.{Network}
 use Rattle.tsn_model.specs.Search.{tally_of}
-use Rattle.tsn_node.specs.Outcome.{outcome_of}
+use Rattle.tsn_conflict.specs.Outcome.{outcome_of}
 use Rattle.tsn_incumbent.specs.Halves.{half}
 use Rattle.tsn_book.specs.declared.refusal.WalkRefusal.{WalkRefusal}
 use Rattle.tsn_book.specs.Below.{events_below, path_after}

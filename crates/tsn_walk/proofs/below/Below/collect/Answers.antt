@@ -1,7 +1,7 @@
 use Rattle.std.proofs.Common.{◌<◌, ◌+◌, ◌∷◌, [], List, MatchBool, map, length, refl, sym, ap, ◌∙◌, subst, arith, length-append}
 use Rattle.std.proofs.lemmas.Grind.{common_steps}
-use Rattle.tsn_node.specs.Outcome.{outcome_of}
-use Rattle.tsn_node.specs.declared.outcome.Look.{Look}
+use Rattle.tsn_conflict.specs.Outcome.{outcome_of}
+use Rattle.tsn_conflict.specs.declared.outcome.Look.{Look}
 use Rattle.tsn_book.specs.Below.{path_after}
 use Rattle.tsn_walk.specs.Below.{StandsAt}
 use Rattle.tsn_walk.proofs.Batching.{IsCollecting, collected_none, collected, collected_on, collected_longer}

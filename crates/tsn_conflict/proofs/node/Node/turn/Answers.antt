@@ -3,10 +3,10 @@ use Rattle.std.specs.Prelude.{slice_set}
 use Rattle.tsn_model.specs.declared.Triple.{Triple}
 use Rattle.tsn_model.specs.declared.Decision.{Decision}
 use Rattle.tsn_model.specs.declared.Side.TheVariants.{Left, Right}
-use Rattle.tsn_node.specs.Path.{IsLastSide}
+use Rattle.tsn_conflict.specs.Path.{IsLastSide}
 use Rattle.tsn_model.proofs.Decisions.{length-decided}
-use Rattle.tsn_node.proofs.Paths.{set_last, get_last}
-use Rattle.tsn_node.proofs.node.Node.turn.Goals as goal
+use Rattle.tsn_conflict.proofs.Paths.{set_last, get_last}
+use Rattle.tsn_conflict.proofs.node.Node.turn.Goals as goal
 
 some_decision : (path : List Decision) → IsLastSide path Left → 1 ≤ length path
 some_decision path (front, triple, is) = let long = ap length is ∙ length-decided front triple Left in omega arith

@@ -6,9 +6,9 @@ use Rattle.tsn_model.specs.declared.Triple.{Triple}
 use Rattle.tsn_model.specs.declared.Side.{Side}
 use Rattle.tsn_model.specs.declared.Side.TheVariants.{Left, Right}
 use Rattle.tsn_model.specs.Certificate.{decided}
-use Rattle.tsn_node.specs.Path.{DecidesOnce, TurnsLeftAt}
-use Rattle.tsn_node.proofs.Paths.{once_turned}
-use Rattle.tsn_node.proofs.node.Node.other_side.Goals as goal
+use Rattle.tsn_conflict.specs.Path.{DecidesOnce, TurnsLeftAt}
+use Rattle.tsn_conflict.proofs.Paths.{once_turned}
+use Rattle.tsn_conflict.proofs.node.Node.other_side.Goals as goal
 
 -- the decision that was read stands at that depth
 stands_there : (read path : List Decision) (depth : ℕ) (d : Decision) (side : Side) → read ≡ path → depth < length read → ((e : Decision) → d ≡ get_or read depth e) → d.side ≡ side

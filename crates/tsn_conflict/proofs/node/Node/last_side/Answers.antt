@@ -1,7 +1,7 @@
 use Rattle.std.proofs.Common.{◌-◌, ◌∙◌, ◌<◌, sym, take, length, arith}
 use Rattle.std.proofs.lemmas.Option.{slice_get_within, get_or_from_slice_get}
-use Rattle.tsn_node.proofs.Paths.{by_last}
-use Rattle.tsn_node.proofs.node.Node.last_side.Goals as goal
+use Rattle.tsn_conflict.proofs.Paths.{by_last}
+use Rattle.tsn_conflict.proofs.node.Node.last_side.Goals as goal
 
 pub returns-in-Some : goal.returns-in-Some
 returns-in-Some c =

@@ -4,7 +4,7 @@ ghost use Rattle.tsn_model.specs.declared.Decision.{Decision};
 ghost use Rattle.tsn_model.specs.declared.Triple.{Triple};
 ghost use Rattle.tsn_model.specs.declared.Side.TheVariants.{Left, Right};
 ghost use Rattle.tsn_model.specs.Certificate.{decided};
-ghost use Rattle.tsn_node.specs.Path.{DecidesOnce, IsUndecided, IsLastSide, TurnsLeftAt, IsOtherSide};
+ghost use Rattle.tsn_conflict.specs.Path.{DecidesOnce, IsUndecided, IsLastSide, TurnsLeftAt, IsOtherSide};
 
 use std::alloc::{AllocError, Global};
 use std::marker::Model;
@@ -19,7 +19,7 @@ pub struct Node {
 impl Model for Node {
     ghost use Rattle.std.specs.Prelude.{List};
     ghost use Rattle.tsn_model.specs.declared.Decision.{Decision};
-    ghost use Rattle.tsn_node.specs.Path.{DecidesOnce};
+    ghost use Rattle.tsn_conflict.specs.Path.{DecidesOnce};
 
     ghost Value = { List Decision };
 

@@ -11,7 +11,7 @@ use Rattle.tsn_model.specs.declared.Side.{Side}
 use Rattle.tsn_model.specs.declared.Decision.{Decision}
 use Rattle.tsn_model.specs.Certificate.{decided}
 use Rattle.tsn_model.proofs.Decisions.{length-decided}
-use Rattle.tsn_node.specs.Path.{DecidesOnce}
+use Rattle.tsn_conflict.specs.Path.{DecidesOnce}
 
 pub by_last : (path : List Decision) (last : Decision) → 0 < length path → last ≡ get_or path (length path - 1) last → path ≡ decided (take (length path - 1) path) last.triple last.side
 unfolding decided

@@ -1,7 +1,7 @@
 use Rattle.std.proofs.Common.{[], ◌∷◌, ◌++◌, List, ◌∙◌, ap}
 use Rattle.tsn_model.specs.declared.Decision.{Decision}
 use Rattle.tsn_model.specs.Certificate.{decided}
-use Rattle.tsn_node.proofs.node.Node.child.Goals as goal
+use Rattle.tsn_conflict.proofs.node.Node.child.Goals as goal
 
 pub returns : goal.returns
 unfolding decided

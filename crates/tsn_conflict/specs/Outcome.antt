@@ -2,8 +2,8 @@
 use Rattle.std.specs.Prelude.{◌≡◌, ℕ}
 use Rattle.tsn_model.specs.Search as search
 use Rattle.tsn_model.specs.Search.{split, solved, pruned, tied, refuted}
-use Rattle.tsn_node.specs.declared.outcome.Look.{Look}
-use Rattle.tsn_node.specs.declared.outcome.Look.TheVariants.{Split, Solved, Pruned, Tied, Refuted}
+use Rattle.tsn_conflict.specs.declared.outcome.Look.{Look}
+use Rattle.tsn_conflict.specs.declared.outcome.Look.TheVariants.{Split, Solved, Pruned, Tied, Refuted}
 use Rattle.tsn_cert.specs.Leaf.{bound_leaf, leaf_of}
 
 -- the outcome that a look of the code is

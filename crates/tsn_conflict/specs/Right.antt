@@ -7,7 +7,7 @@ use Rattle.tsn_model.specs.Network.{Network}
 use Rattle.tsn_model.specs.Schedule.{IsValid, flowspan, IsConflict}
 use Rattle.tsn_model.specs.Certificate.{Proves, HasBound, AreChains}
 use Rattle.tsn_model.specs.Search.{Outcome, split, solved, pruned, tied, refuted, Refutes, ShowsOffsets}
-use Rattle.tsn_node.specs.Path.{IsUndecided}
+use Rattle.tsn_conflict.specs.Path.{IsUndecided}
 
 -- a leaf is right for its own bound; a solved one has a valid schedule of that flowspan, with chains that show its offsets, and a tied
 -- one has chains of the path

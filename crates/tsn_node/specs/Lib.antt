@@ -1,3 +1,0 @@
-pub mod Path
-pub mod Outcome
-pub mod Right
