@@ -27,6 +27,8 @@ MAP = os.path.join(ROOT, "docs", "crates.md")
 PAGES = [PAGE, os.path.join(ROOT, "README.md"), MAP, os.path.join(ROOT, "docs", "architecture.md")]
 # What a line says of calls that no command makes.
 FOR_USERS = "for users of the crates"
+# Crates that promise something and that the program is built without.
+APART = ("tsn_core", "tsn_laws")
 LEARNS = ("tsn_bounds", "tsn_solver", "tsn_translate", "tsn_learn")
 
 # What stands around the counts of functions in each page, and which counts these are.
@@ -212,7 +214,7 @@ def unreached(path, reached):
         for word, target, at in re.findall(r"\[`([\w:]+)`\]\(([^)#]+\.rt)#L(\d+)\)", line):
             file = os.path.relpath(os.path.normpath(os.path.join(os.path.dirname(path), target)), os.path.join(ROOT, "crates"))
             crate, _, inside = file.partition(os.sep)
-            is_law = os.path.basename(inside) == "laws.rt"
+            is_law = crate == "tsn_laws" or os.path.basename(inside) == "laws.rt"
             if not is_law and FOR_USERS not in line and not reached.is_reached(crate, inside, int(at)):
                 wrong.append(f"{os.path.relpath(path, ROOT)}: nothing reaches `{word}` from main, and the line doesn't say that it is {FOR_USERS}")
     return wrong
@@ -251,14 +253,14 @@ def wrong_quotes(path):
 
 def main():
     used = uses()
-    crates = [it for it in used if it in below("tsn", used) or it == "tsn_core"]
+    crates = [it for it in used if it in below("tsn", used) or it in APART]
     listed = {crate: functions(crate) for crate in crates}
     if sys.argv[1:2] == ["--list"]:
         tell(listed, sys.argv[2:])
         return 0
     mend = sys.argv[1:] == ["--mend"]
     wrong = [it for page in PAGES for it in [*wrong_links(page, mend), *wrong_quotes(page)]]
-    reached = Reached(ROOT, [*(it for it in crates if it != "tsn_core"), "tsn"])
+    reached = Reached(ROOT, [*(it for it in crates if it not in APART), "tsn"])
     wrong += [it for page in PAGES for it in unreached(page, reached)]
     counted = counts([*crates, "tsn"])
     wrong += [it for page in COUNTS for it in wrong_counts(page, counted, mend)]
