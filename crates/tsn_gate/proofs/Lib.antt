@@ -6,7 +6,6 @@ pub mod Wanted
 pub mod PlannedStarts
 pub mod Merging
 pub mod Playing
-pub mod Rest
 pub mod Links
 pub mod Tables
 pub mod Unique

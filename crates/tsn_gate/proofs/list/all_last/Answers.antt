@@ -1,6 +1,6 @@
 use Rattle.std.proofs.Common.{◌≤◌, refl, arith}
 use Rattle.tsn_model.specs.declared.GateEntry.{GateEntry}
-use Rattle.tsn_gate.proofs.Rest.{all_more, all_done}
+use Rattle.tsn_model.proofs.Rest.{all_more, all_done}
 use Rattle.tsn_gate.proofs.list.all_last.Goals as goal
 
 none : GateEntry

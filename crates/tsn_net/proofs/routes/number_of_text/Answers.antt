@@ -3,7 +3,7 @@ use Rattle.std.specs.List.{position_from}
 use Rattle.std.specs.Str.{bytes_eq}
 use Rattle.std.proofs.lemmas.Iterator.Adapters.{position_from-zero}
 use Rattle.tsn_net.specs.DocumentView.{texts_view}
-use Rattle.tsn_net.proofs.Rest.{rest_seen, rest_none, place_here, place_later}
+use Rattle.tsn_model.proofs.Rest.{rest_seen, rest_none, place_here, place_later}
 use Rattle.tsn_net.proofs.RouteLemmas.{text_in}
 use Rattle.tsn_net.proofs.routes.number_of_text.Goals as goal
 

@@ -4,7 +4,7 @@ use Rattle.std.proofs.lemmas.List.{drop_more, drop_all}
 use Rattle.toml.specs.View.{view}
 use Rattle.tsn_net.specs.declared.schema.Key.{Key}
 use Rattle.tsn_net.specs.Schema.{holds_at, has_kind}
-use Rattle.tsn_net.proofs.Rest.{find_here, find_later}
+use Rattle.tsn_model.proofs.Rest.{find_here, find_later}
 use Rattle.tsn_net.proofs.schema.amiss_key.Goals as goal
 
 pub loop-key-init : goal.loop-key-init

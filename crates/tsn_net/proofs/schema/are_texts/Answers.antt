@@ -4,7 +4,7 @@ use Rattle.std.proofs.lemmas.List.{drop_all}
 use Rattle.toml.specs.View.{view}
 use Rattle.toml.specs.declared.value.Value.{Value}
 use Rattle.tsn_net.specs.Schema.{is_text}
-use Rattle.tsn_net.proofs.Rest.{rest_from, all_here, all_later}
+use Rattle.tsn_model.proofs.Rest.{rest_from, all_here, all_later}
 use Rattle.tsn_net.proofs.schema.are_texts.Goals as goal
 
 pub returns-then-not-is_str : goal.returns-then-not-is_str

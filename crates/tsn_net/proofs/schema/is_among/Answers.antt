@@ -4,7 +4,7 @@ use Rattle.std.specs.Str.{bytes_eq}
 use Rattle.std.proofs.lemmas.List.{drop_more, drop_all}
 use Rattle.tsn_net.specs.declared.schema.Key.{Key}
 use Rattle.tsn_net.specs.Schema.{name_of}
-use Rattle.tsn_net.proofs.Rest.{any_here, any_later}
+use Rattle.tsn_model.proofs.Rest.{any_here, any_later}
 use Rattle.tsn_net.proofs.schema.is_among.Goals as goal
 
 pub returns-then-eq : goal.returns-then-eq

@@ -2,7 +2,7 @@ use Rattle.std.proofs.Common.{◌&&◌, ℕ, List, sym, ap, ◌∙◌}
 use Rattle.std.specs.Str.{bytes_eq}
 use Rattle.tsn_net.specs.DocumentView.{step_view}
 use Rattle.tsn_net.specs.Conditions.{is_step}
-use Rattle.tsn_net.proofs.Rest.{rest_at, rest_none, any_here, any_later}
+use Rattle.tsn_model.proofs.Rest.{rest_at, rest_none, any_here, any_later}
 use Rattle.tsn_net.proofs.steps.is_among.Goals as goal
 
 pub returns-then-are_same : goal.returns-then-are_same

@@ -6,7 +6,7 @@ use Rattle.tsn_net.specs.Document.{texts_of}
 use Rattle.tsn_net.specs.DocumentView.{routes_view}
 use Rattle.tsn_net.specs.Conditions.{begin_of}
 use Rattle.tsn_net.proofs.Along.{routes-drop, routes-past}
-use Rattle.tsn_net.proofs.Rest.{find_here, find_later}
+use Rattle.tsn_model.proofs.Rest.{find_here, find_later}
 use Rattle.tsn_net.proofs.steps.other_talker.Goals as goal
 
 abbrev elsewhere : List ℕ → List (List ℕ) → Bool

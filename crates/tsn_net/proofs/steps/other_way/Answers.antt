@@ -2,7 +2,7 @@ use Rattle.std.proofs.Common.{ℕ, List, option_map, sym, ap, ◌∙◌}
 use Rattle.std.specs.List.{find}
 use Rattle.tsn_net.specs.DocumentView.{step_view}
 use Rattle.tsn_net.specs.Conditions.{meet}
-use Rattle.tsn_net.proofs.Rest.{rest_at, rest_none, find_here, find_later}
+use Rattle.tsn_model.proofs.Rest.{rest_at, rest_none, find_here, find_later}
 use Rattle.tsn_net.proofs.steps.other_way.Goals as goal
 
 pub returns-then-meets : goal.returns-then-meets

@@ -3,7 +3,7 @@ use Rattle.std.specs.List.{list_any}
 use Rattle.tsn_net.specs.DocumentView.{texts_view}
 use Rattle.tsn_net.specs.Conditions.{is_same}
 use Rattle.tsn_net.proofs.Along.{route_in, routes-past}
-use Rattle.tsn_net.proofs.Rest.{rest_seen, any_here, any_later}
+use Rattle.tsn_model.proofs.Rest.{rest_seen, any_here, any_later}
 use Rattle.tsn_net.proofs.steps.stands_in.Goals as goal
 
 pub returns-then-is_same : goal.returns-then-is_same

@@ -2,7 +2,7 @@ use Rattle.std.proofs.Common.{sym, ap, ◌∙◌}
 use Rattle.std.specs.List.{list_all}
 use Rattle.std.proofs.lemmas.List.{drop_more, drop_all}
 use Rattle.tsn_net.specs.Conditions.{is_name_byte}
-use Rattle.tsn_net.proofs.Rest.{all_here, all_later}
+use Rattle.tsn_model.proofs.Rest.{all_here, all_later}
 use Rattle.tsn_net.proofs.tables.are_name_bytes.Goals as goal
 
 pub returns-then-not-is_name_byte : goal.returns-then-not-is_name_byte

@@ -5,7 +5,7 @@ use Rattle.toml.specs.View.{view}
 use Rattle.tsn_net.specs.declared.schema.Key.{Key}
 use Rattle.tsn_net.specs.Document.{text_at}
 use Rattle.tsn_net.specs.Conditions.{is_name}
-use Rattle.tsn_net.proofs.Rest.{find_here, find_later}
+use Rattle.tsn_model.proofs.Rest.{find_here, find_later}
 use Rattle.tsn_net.proofs.tables.nameless_key.Goals as goal
 
 pub loop-key-init : goal.loop-key-init

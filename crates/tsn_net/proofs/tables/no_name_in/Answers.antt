@@ -4,7 +4,7 @@ use Rattle.std.specs.List.{find}
 use Rattle.tsn_net.specs.DocumentView.{texts_view}
 use Rattle.tsn_net.specs.Conditions.{is_name}
 use Rattle.tsn_net.proofs.MatterLemmas.{found_amiss}
-use Rattle.tsn_net.proofs.Rest.{rest_seen, rest_none, find_here, find_later}
+use Rattle.tsn_model.proofs.Rest.{rest_seen, rest_none, find_here, find_later}
 use Rattle.tsn_net.proofs.RouteLemmas.{text_in}
 use Rattle.tsn_net.proofs.tables.no_name_in.Goals as goal
 

@@ -4,7 +4,7 @@ use Rattle.std.proofs.lemmas.List.{drop_more, drop_all}
 use Rattle.toml.specs.View.{view}
 use Rattle.tsn_net.specs.declared.schema.Key.{Key}
 use Rattle.tsn_net.specs.Matter.{is_in_range}
-use Rattle.tsn_net.proofs.Rest.{find_here, find_later}
+use Rattle.tsn_model.proofs.Rest.{find_here, find_later}
 use Rattle.tsn_net.proofs.tables.outside_key.Goals as goal
 
 pub loop-key-init : goal.loop-key-init

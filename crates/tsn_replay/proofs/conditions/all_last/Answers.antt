@@ -1,7 +1,7 @@
 use Rattle.std.proofs.Common.{◌≡◌, refl, sym, ap, ◌∙◌}
 use Rattle.tsn_model.specs.Gates.{cycle_of}
 use Rattle.tsn_model.specs.Bridge.{LinkGates}
-use Rattle.tsn_gate.proofs.Rest.{all_more, all_done}
+use Rattle.tsn_model.proofs.Rest.{all_more, all_done}
 use Rattle.tsn_replay.proofs.conditions.all_last.Goals as goal
 
 pub loop-list-preserved : goal.loop-list-preserved

@@ -1,6 +1,6 @@
 use Rattle.std.proofs.Common.{refl, sym, ◌∙◌, subst}
 use Rattle.tsn_replay.specs.Faults.{IsWithin}
-use Rattle.tsn_gate.proofs.Rest.{all_more, all_done}
+use Rattle.tsn_model.proofs.Rest.{all_more, all_done}
 use Rattle.tsn_replay.proofs.conditions.all_within.Goals as goal
 
 pub loop-frame-preserved : goal.loop-frame-preserved

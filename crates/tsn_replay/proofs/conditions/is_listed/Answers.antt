@@ -1,6 +1,6 @@
 use Rattle.std.proofs.Common.{◌≢◌, refl, sym, ap, ◌∙◌}
 use Rattle.tsn_model.specs.Bridge.{LinkGates}
-use Rattle.tsn_gate.proofs.Rest.{all_more, all_done}
+use Rattle.tsn_model.proofs.Rest.{all_more, all_done}
 use Rattle.tsn_replay.proofs.conditions.is_listed.Goals as goal
 
 pub loop-list-preserved : goal.loop-list-preserved

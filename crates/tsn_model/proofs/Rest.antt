@@ -1,7 +1,11 @@
--- What a loop finds in the rest of a list, from an index on.
-use Rattle.std.proofs.Common.{◌≡◌, ℕ, ◌+◌, ◌<◌, ◌≤◌, Bool, true, false, cond, ◌&&◌, ◌||◌, List, [], ◌∷◌, map, length, get_or, drop, Option, Some, ap, sym, ◌∙◌}
+-- What a loop finds in the rest of a list, from an index on, and what it knows of the elements before it.
+use Rattle.std.proofs.Common.{◌≡◌, ℕ, ◌+◌, ◌<◌, ◌≤◌, Bool, true, false, cond, ◌&&◌, ◌||◌, List, [], ◌∷◌, All, map, length, get_or, take, drop}
+use Rattle.std.proofs.Common.{Option, Some, None, ap, sym, ◌∙◌, subst}
+use Rattle.std.specs.Prelude.{position}
 use Rattle.std.specs.List.{find, list_any, list_all, position_from}
-use Rattle.std.proofs.lemmas.List.{drop_more, drop_all}
+use Rattle.std.proofs.lemmas.List.{drop_more, drop_all, take_more, take_all}
+use Rattle.std.proofs.lemmas.List.Elements.{All-push}
+use Rattle.std.proofs.lemmas.Iterator.Adapters.{position_from-zero}
 
 -- the elements from the i-th on, as they are and as they are seen
 pub rest_from : {V : Type 0} (vs : List V) (i : ℕ) (v : V) → i < length vs → v ≡ get_or vs i v → drop i vs ≡ v ∷ drop (i + 1) vs
@@ -45,3 +49,25 @@ module _ {X : Type 0} (test : X → Bool) (xs more : List X) (x : X) (next : xs 
 
   pub all_later : (whole : Bool) → test x ≡ true → list_all test xs ≡ whole → list_all test more ≡ whole
   all_later whole passes all = sym (ap (list_all test) next ∙ ap (λ b. b && list_all test more) passes) ∙ all
+
+-- at the list's end none is left
+module _ {X : Type 0} (test : X → Bool) (xs : List X) (i : ℕ) (past : length xs ≤ i) where
+  pub any_past : (whole : Bool) → list_any test (drop i xs) ≡ whole → false ≡ whole
+  any_past whole rest = sym (ap (list_any test) (drop_all i xs past)) ∙ rest
+
+  pub all_past : (whole : Bool) → list_all test (drop i xs) ≡ whole → true ≡ whole
+  all_past whole rest = sym (ap (list_all test) (drop_all i xs past)) ∙ rest
+
+  pub place_past : (whole : Option ℕ) → position_from test i (drop i xs) ≡ whole → None ≡ whole
+  place_past whole rest = sym (ap (position_from test i) (drop_all i xs past)) ∙ rest
+
+pub place_begun : {X : Type 0} (test : X → Bool) (xs : List X) → position_from test 0 xs ≡ position test xs
+place_begun test xs = sym (position_from-zero test xs)
+
+-- all up to this one are so
+pub all_more : {X : Type 0} (P : X → Type 0) (xs : List X) (i : ℕ) (d : X) → i < length xs → All P (take i xs) → P (get_or xs i d)
+    → All P (take (i + 1) xs)
+all_more P xs i d below before here = subst (All P) (sym (take_more xs i d below)) (All-push P (take i xs) (get_or xs i d) before here)
+
+pub all_done : {X : Type 0} (P : X → Type 0) (xs : List X) (i : ℕ) → length xs ≤ i → All P (take i xs) → All P xs
+all_done P xs i past before = subst (All P) (take_all i xs past) before
