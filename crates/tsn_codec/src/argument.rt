@@ -199,6 +199,7 @@ fn misfit_of_steps(alloc: Global, text: &str) -> Result<Option<Misfit>, NoMemory
     misfit_in(&mut tokens)
 }
 
+// What the steps of a file stop at; None where they don't stop, or the file doesn't begin as an argument.
 fn misfit_in(tokens: &mut Tokens<'_>) -> Result<Option<Misfit>, NoMemory>
     ensures { IfOk result (λ misfit. IfSome misfit (ArgumentStops tokens.old)) }
 {
@@ -208,6 +209,7 @@ fn misfit_in(tokens: &mut Tokens<'_>) -> Result<Option<Misfit>, NoMemory>
     }
 }
 
+// The same of the steps alone.
 fn misfit_behind(tokens: &mut Tokens<'_>) -> Result<Option<Misfit>, NoMemory>
     ensures { (ts : List Token) → BeginsArgument ts tokens.old → IfOk result (λ misfit. IfSome misfit (ArgumentStops ts)) }
 {
@@ -223,10 +225,10 @@ fn ends_with_target(alloc: Global, text: &str) -> Result<bool, NoMemory>
 {
     let mut scratch = Scratch::new(alloc);
     let mut tokens = Tokens::of(alloc, text, &mut scratch)?;
-    Ok(end_with_target(&mut tokens))
+    Ok(have_keys_in_order(&mut tokens))
 }
 
-fn end_with_target(tokens: &mut Tokens<'_>) -> bool
+fn have_keys_in_order(tokens: &mut Tokens<'_>) -> bool
     ensures { result ≡ true → (ts : List Token) × BeginsArgument tokens.old ts × EndsWithTarget ts }
 {
     match begin(tokens) {

@@ -198,7 +198,12 @@ fn is_of(node: &Node, format: Format) -> bool
 fn first_other(nodes: &[Node], format: Format) -> Option<usize>
     ensures { result ≡ position (λ node. not (is_of format (tree_node node))) nodes.now }
 {
-    nodes.iter().position(|node| !is_of(node, format))
+    for (number, node) in nodes.iter().enumerate() {
+        if !is_of(node, format) {
+            return Some(number);
+        }
+    }
+    None
 }
 
 // Which node is the first that isn't of the format, as a tie isn't of the first one: one of these, or else the one behind them.
@@ -233,6 +238,7 @@ fn misfit_of_nodes(alloc: Global, text: &str) -> Result<Option<Misfit>, NoMemory
     misfit_in(&mut tokens)
 }
 
+// The node of another form at which the nodes of a file stop; None where they don't, or the file doesn't begin as a tree.
 fn misfit_in(tokens: &mut Tokens<'_>) -> Result<Option<Misfit>, NoMemory>
     ensures { IfOk result (λ misfit. IfSome misfit (StopsNodes tokens.old)) }
 {
@@ -242,6 +248,7 @@ fn misfit_in(tokens: &mut Tokens<'_>) -> Result<Option<Misfit>, NoMemory>
     }
 }
 
+// The same of the nodes alone, where the file is of this format.
 fn misfit_behind(tokens: &mut Tokens<'_>, format: Format) -> Result<Option<Misfit>, NoMemory>
     ensures { (ts : List Token) → BeginsTree format ts tokens.old → IfOk result (λ misfit. IfSome misfit (StopsNodes ts)) }
 {
@@ -257,10 +264,10 @@ fn ends_with_target(alloc: Global, text: &str) -> Result<bool, NoMemory>
 {
     let mut scratch = Scratch::new(alloc);
     let mut tokens = Tokens::of(alloc, text, &mut scratch)?;
-    Ok(end_with_target(&mut tokens))
+    Ok(have_keys_in_order(&mut tokens))
 }
 
-fn end_with_target(tokens: &mut Tokens<'_>) -> bool
+fn have_keys_in_order(tokens: &mut Tokens<'_>) -> bool
     ensures { result ≡ true → (format : Format) × (ts : List Token) × BeginsTree format tokens.old ts × EndsWithTarget ts }
 {
     match begin(tokens) {

@@ -78,13 +78,23 @@ fn key_outside<'a>(members: &'a Map<String, Value>, keys: &[Key]) -> Option<&'a 
         ≡ find (λ name. not (list_any (λ k. bytes_eq (key_name k) (string_bytes name)) keys.now)) (keys_of members.now) }
     ensures sorted { IsStrictlySortedBy string_cmp (keys_of members.now) }
 {
-    members.keys().find(|name| !is_among(name.as_str(), keys))
+    for name in members.keys() {
+        if !is_among(name.as_str(), keys) {
+            return Some(name);
+        }
+    }
+    None
 }
 
 fn is_among(name: &str, keys: &[Key]) -> bool
     ensures { result ≡ list_any (λ k. bytes_eq (key_name k) name.now) keys.now }
 {
-    keys.iter().any(|key| key.name() == name)
+    for key in keys {
+        if key.name() == name {
+            return true;
+        }
+    }
+    false
 }
 
 /// Why an object that has all of these keys doesn't have them alone.

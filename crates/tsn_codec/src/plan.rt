@@ -192,5 +192,10 @@ fn excess(plan: &Plan) -> Option<Excess>
 fn first_late(offsets: &[u64]) -> Option<usize>
     ensures { result ≡ position (λ offset. not (nat_le offset max_time)) offsets.now }
 {
-    offsets.iter().position(|offset| *offset > MAX_TIME)
+    for (number, offset) in offsets.iter().enumerate() {
+        if *offset > MAX_TIME {
+            return Some(number);
+        }
+    }
+    None
 }

@@ -20,7 +20,12 @@ fn has_fact_lag(fact: Fact) -> bool
 fn first_large<T: Limited>(parts: &[T]) -> Option<usize>
     ensures { result ≡ position (λ it. not (T.within it)) parts.now }
 {
-    parts.iter().position(|part| !part.fits())
+    for (number, part) in parts.iter().enumerate() {
+        if !part.fits() {
+            return Some(number);
+        }
+    }
+    None
 }
 
 // The first part of a step with a number above its limit, and whether it has a lag other than 0; none where each is within.

@@ -445,7 +445,12 @@ impl Element for Move {
 fn have_lag(orders: &[Order]) -> bool
     ensures { result ≡ list_any order_lags orders.now }
 {
-    orders.iter().any(|order| order.lag != 0)
+    for order in orders {
+        if order.lag != 0 {
+            return true;
+        }
+    }
+    false
 }
 
 /// Whether the move has a lag other than 0.

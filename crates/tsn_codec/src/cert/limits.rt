@@ -28,13 +28,23 @@ fn entry_fits(entry: &Entry) -> bool
 fn entries_fit(entries: &[Entry]) -> bool
     ensures { result ≡ list_all entry_fits entries.now }
 {
-    entries.iter().all(|entry| entry_fits(entry))
+    for entry in entries {
+        if !entry_fits(entry) {
+            return false;
+        }
+    }
+    true
 }
 
 fn chains_fit(chains: &[Chain]) -> bool
     ensures { result ≡ list_all (all_within max_number) chains.now }
 {
-    chains.iter().all(|chain| chain_fits(chain))
+    for chain in chains {
+        if !chain_fits(chain) {
+            return false;
+        }
+    }
+    true
 }
 
 fn load_fits(link: usize, entries: &Entries) -> bool
@@ -93,7 +103,12 @@ fn has_lag(node: &Node) -> bool
 fn first_large(nodes: &[Node]) -> Option<usize>
     ensures { result ≡ position (λ node. not (node_fits (tree_node node))) nodes.now }
 {
-    nodes.iter().position(|node| !node_fits(node))
+    for (number, node) in nodes.iter().enumerate() {
+        if !node_fits(node) {
+            return Some(number);
+        }
+    }
+    None
 }
 
 /// The first number above its limit; none where each is within.
