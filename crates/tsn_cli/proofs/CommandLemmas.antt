@@ -1,4 +1,4 @@
--- How what is shown tells a fault, and what a run ends with that shows it.
+-- How what is shown tells a fault, and what a run ends with that tells it.
 use Rattle.std.proofs.Common.{ℕ, List, [], ◌∷◌, Bool, true, false, IsTrue, Result, Ok, Err, IfOk, refl}
 use Rattle.tsn_device.specs.declared.device.ReadFault.{ReadFault}
 use Rattle.tsn_device.specs.declared.device.ReadFault.TheVariants.{Broken}
@@ -41,8 +41,3 @@ shown_told json command sources (Err fault) output status line over told =
 shown_told false command sources (Ok (Text text remarks)) output status line over told =
     runs_with shown_output command sources (output ∷ []) (Ok (Text text remarks)) status over told
 shown_told true command sources (Ok (Text text remarks)) output status line over told = absurd (line refl)
-
--- a run of which what is shown was written
-pub shown_runs : (command : Command) (sources : List SourceRun) (sinks : List SinkRun) (shown : Result Shown ReadFault) (status : ℕ)
-    → ComesOver shown_output command sources shown → IsWrittenAs IsShownBy shown sinks status → RunsOver command sources sinks status
-shown_runs command sources sinks shown status over written = runs_with shown_output command sources sinks shown status over written

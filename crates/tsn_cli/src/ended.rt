@@ -1,8 +1,6 @@
 //! How a search ended, and what is told of it.
-ghost use Rattle.std.specs.Prelude.{◌≡◌, ◌⊎◌, ◌<◌, ◌-◌, ◌^◌, [], ◌∷◌, IfSome, string_bytes};
+ghost use Rattle.std.specs.Prelude.{◌≡◌, IfSome, string_bytes};
 ghost use Rattle.tsn_outcome.specs.Run.{sink_over};
-ghost use Rattle.tsn_outcome.specs.Said.{status_of};
-ghost use Rattle.tsn_outcome.specs.Outcome.{IsOutputOf, IsWrittenAs, outcome_of};
 ghost use Rattle.tsn_outcome.specs.Runs.{IsToldBy};
 ghost use Rattle.tsn_outcome.specs.Stop.{stop_text};
 
@@ -11,32 +9,11 @@ use std::alloc::Global;
 use std::io::Eprint;
 use std::time::Clock;
 use tsn_branch::ProgressWriter;
-use tsn_device::device::{ReadFault, Sink};
+use tsn_device::device::ReadFault;
 use tsn_outcome::json::tell_answer;
 use tsn_outcome::reason::{fault_of, write_line};
-use tsn_outcome::run::{DEVICE, respond};
 use tsn_outcome::told::Told;
-use tsn_outcome::{Answer, Given, Made, Outcome, Ran, Stop, outcome_of};
-
-/// How a run of `plan` ended: its status, and what is known where that is `STOPPED`.
-#[derive(Clone, Copy)]
-pub struct PlanEnd {
-    pub status: u8,
-    pub stop: Option<Stop>,
-}
-
-/// Writes the line of what a run answers, and says how the run ended: with that, or with a device that failed.
-pub fn end_run<W: Sink>(sink: &mut W, answer: Result<Answer, ReadFault>) -> Outcome
-    requires { W.failed sink.old < 2 ^ 64 - 1 }
-    ensures written { IsWrittenAs IsOutputOf answer (sink_over W.taken W.failed sink.old sink.new ∷ []) (status_of result) }
-    ensures outcome { (result ≡ Outcome.Failed) ⊎ (result ≡ outcome_of answer) }
-{
-    if respond(sink, &answer) == DEVICE {
-        Outcome::Failed
-    } else {
-        outcome_of(&answer)
-    }
-}
+use tsn_outcome::{Answer, Given, Made, Ran, Stop, outcome_of};
 
 /// The line on what is known where the limit was met, and else this one. The first names the command that writes a certificate, where
 /// the flowspan is shown to be the least.

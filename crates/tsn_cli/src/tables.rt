@@ -3,7 +3,7 @@
 ghost use Rattle.std.specs.Prelude.{◌≡◌, ◌≤◌, ◌<◌, ◌-◌, ◌^◌, ◌⊎◌, [], ◌∷◌, All, IfOk, IfErr, IsErr, Ok, length, string_bytes};
 ghost use Rattle.tsn_model.specs.Schedule.{IsValid};
 ghost use Rattle.tsn_check.specs.Numbers.{plan_code};
-ghost use Rattle.tsn_outcome.specs.Run.{RunsOver, sink_over, source_over};
+ghost use Rattle.tsn_outcome.specs.Run.{source_over};
 ghost use Rattle.tsn_outcome.specs.Outcome.{ComesOver, IsOutcome};
 ghost use Rattle.tsn_outcome.specs.declared.outcome.Outcome.TheVariants.{RefusedPlan};
 ghost use Rattle.tsn_cli.specs.Shown.{shown_output};
@@ -13,17 +13,17 @@ ghost use Rattle.tsn_chart.specs.declared.stream.StreamShare.{StreamShare};
 ghost use Rattle.std.specs.Option.{ForSome};
 ghost use Rattle.tsn_replay.specs.Faults.{HasReplayFault};
 ghost use Rattle.tsn_replay.specs.Feeding.{background_for};
-ghost use Rattle.tsn_cli.specs.Tables.{AreRowsBy, CanShow, GatesAnswers, RejectsPlan, ReplayAnswers, ShowsLists, ShowsPicture, ShowsPlan, ShowsReplay, ShowsShares, ShowsTable, TableAnswers, rows_text, shares_text};
+ghost use Rattle.tsn_cli.specs.Tables.{AreRowsBy, CanShow, RejectsPlan, ShowsLists, ShowsPicture, ShowsPlan, ShowsReplay, ShowsShares, ShowsTable, TableAnswers, rows_text, shares_text};
 
 use crate::inputs::{BothRead, read_both};
 use crate::options::{GatesOptions, ReplayOptions, Table};
-use crate::shown::{Shown, show};
+use crate::shown::Shown;
 use crate::untaken::{unborne, untaken};
 use std::alloc::Global;
 use tsn_cert::Plan;
 use tsn_chart::{Drawing, Shares, marked_chart, plan_shares, to_csv, to_json, to_text};
 use tsn_check::{PlanFault, judge_plan};
-use tsn_device::device::{ReadFault, Sink, Source};
+use tsn_device::device::{ReadFault, Source};
 use tsn_gate::{GateList, gate_lists, lists_by, text_in};
 use tsn_model::{Frame, NoMemory};
 use tsn_outcome::rejection;
@@ -31,61 +31,6 @@ use tsn_reason::{Claim, line_on_plan};
 use tsn_replay::{Background, ReplayFault, ReplayTable, replay_early, replay_rows};
 use tsn_timing::{Problem, Valid};
 use tsn_words::{ReplayFormat, StreamsFormat};
-
-/// Reads a network file and a plan file, the first judged before the second is read, and writes the plan's gate control
-/// lists, merged where that is asked for, in a format, or a line on what is refused. The answer is the status.
-#[tactic(auto, using(crate::proofs::CommandLemmas::shown_runs))]
-pub fn gates_run<N: Source, P: Source, W: Sink>(
-    alloc: Global,
-    network: &mut N,
-    plan: &mut P,
-    options: GatesOptions,
-    sink: &mut W,
-) -> u8
-    requires network_reads { N.failed network.old < 2 ^ 64 - 1 }
-    requires plan_reads { P.failed plan.old < 2 ^ 64 - 1 }
-    requires writes { W.failed sink.old < 2 ^ 64 - 1 }
-
-    ensures { RunsOver (GatesAnswers options)
-        (source_over N.given N.failed N.is_at_end network.old network.new
-        ∷ source_over P.given P.failed P.is_at_end plan.old plan.new ∷ [])
-        (sink_over W.taken W.failed sink.old sink.new ∷ []) result }
-{
-    show(
-        sink,
-        &table_shown(alloc, network, plan, Table::Gates(options)),
-    )
-}
-
-/// Reads a network file and a plan file, the first judged before the second is read, and writes, in a format, a
-/// replay of the plan by its gate control lists, merged where that is asked for, over 1 to 16 cycles, with no background or, where
-/// `greedy`, with a background frame of 1522 octets always waiting, and with frames that are ready early where that is asked for;
-/// or a line on what is refused. The answer is the status.
-#[tactic(auto, using(crate::proofs::CommandLemmas::shown_runs))]
-pub fn replay_run<N: Source, P: Source, W: Sink>(
-    alloc: Global,
-    network: &mut N,
-    plan: &mut P,
-    options: ReplayOptions,
-    sink: &mut W,
-) -> u8
-    requires some { 1 ≤ options.cycles }
-    requires few { options.cycles ≤ 16 }
-    requires soon { ForSome options.early (λ time. time ≤ 1000000) }
-    requires network_reads { N.failed network.old < 2 ^ 64 - 1 }
-    requires plan_reads { P.failed plan.old < 2 ^ 64 - 1 }
-    requires writes { W.failed sink.old < 2 ^ 64 - 1 }
-
-    ensures { RunsOver (ReplayAnswers options)
-        (source_over N.given N.failed N.is_at_end network.old network.new
-        ∷ source_over P.given P.failed P.is_at_end plan.old plan.new ∷ [])
-        (sink_over W.taken W.failed sink.old sink.new ∷ []) result }
-{
-    show(
-        sink,
-        &table_shown(alloc, network, plan, Table::Replay(options)),
-    )
-}
 
 /// What is shown of a plan, before it is written: by a table that is asked for, or on what is refused.
 pub fn table_shown<N: Source, P: Source>(

@@ -1,36 +1,15 @@
 //! `valid`: judges a list of offsets.
-ghost use Rattle.std.specs.Prelude.{◌<◌, ◌-◌, ◌^◌, ◌⊎◌, [], ◌∷◌, IfOk, Ok};
-ghost use Rattle.tsn_outcome.specs.Run.{RunsOver, sink_over, source_over};
+ghost use Rattle.std.specs.Prelude.{◌⊎◌, IfOk, Ok};
 ghost use Rattle.tsn_outcome.specs.Outcome.{output_of};
-ghost use Rattle.tsn_cli.specs.Valid.{ValidAnswers, Accepts, Rejects};
+ghost use Rattle.tsn_cli.specs.Valid.{Accepts, Rejects};
 
-use crate::network::{NetworkView, network_shown};
-use crate::shown::{Shown, show};
+use crate::network::NetworkView;
+use crate::shown::Shown;
 use std::alloc::Global;
-use tsn_device::device::{Sink, Source};
 use tsn_model::NoMemory;
 use tsn_outcome::{Answer, Outcome};
 use tsn_reason::{Schedule, offsets_line};
 use tsn_timing::{Problem, Validity};
-
-/// Reads a network file, judges the offsets (nanoseconds, of any size, in the order of the file's streams), and writes
-/// a line on them. The answer is the status.
-#[tactic(auto, using(crate::proofs::CommandLemmas::shown_runs))]
-pub fn valid_run<S: Source, W: Sink>(
-    alloc: Global,
-    source: &mut S,
-    offsets: &[u64],
-    sink: &mut W,
-) -> u8
-    requires reads { S.failed source.old < 2 ^ 64 - 1 }
-    requires writes { W.failed sink.old < 2 ^ 64 - 1 }
-
-    ensures { RunsOver (ValidAnswers offsets.now)
-        (source_over S.given S.failed S.is_at_end source.old source.new ∷ [])
-        (sink_over W.taken W.failed sink.old sink.new ∷ []) result }
-{
-    show(sink, &network_shown(alloc, source, &Offsets(offsets)))
-}
 
 /// Offsets that are judged, in nanoseconds, in the order of the file's streams.
 #[derive(Clone, Copy)]

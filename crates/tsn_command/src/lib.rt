@@ -9,5 +9,5 @@ mod plan;
 pub mod planning;
 
 pub use command::{run, run_to};
-pub use plan::{plan_answer, plan_run};
-pub use tsn_cli::{NO_SCHEDULE, PlanEnd};
+pub use plan::plan_answer;
+pub use tsn_cli::NO_SCHEDULE;

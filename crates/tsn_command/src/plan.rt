@@ -1,8 +1,8 @@
 //! `plan`: finds the lexicographically least of the schedules of least flowspan.
-ghost use Rattle.std.specs.Prelude.{◌≡◌, ◌≤◌, ◌<◌, ◌-◌, ◌^◌, ◌↔◌, [], ◌∷◌, IfOk, IfSome, IsTrue, MatchBool, is_some};
+ghost use Rattle.std.specs.Prelude.{◌≡◌, ◌≤◌, ◌<◌, ◌-◌, ◌^◌, [], ◌∷◌, IfOk, IfSome, IsTrue, MatchBool, is_some};
 ghost use Rattle.tsn_model.specs.Network.{HasFewStreams, stream_count};
 ghost use Rattle.tsn_words.specs.declared.options.Method.TheVariants.{FileOrder};
-ghost use Rattle.tsn_outcome.specs.Run.{EndsOver, RunsOver, failed_in, sink_over, source_over, taken_in};
+ghost use Rattle.tsn_outcome.specs.Run.{EndsOver, failed_in, sink_over, source_over, taken_in};
 ghost use Rattle.tsn_outcome.specs.declared.outcome.Outcome.TheVariants.{TooMany};
 ghost use Rattle.tsn_outcome.specs.Said.{line_of, status_of, stop_of};
 ghost use Rattle.tsn_outcome.specs.Outcome.{EndsAs, line_taken, outcome_of};
@@ -14,64 +14,12 @@ use std::sync::Wait;
 use std::thread::Threads;
 use tsn_answer::Effort;
 use tsn_branch::{FEW_STREAMS, Supervisor};
-use tsn_cli::{
-    NetworkRead, PlanEnd, RunOutput, Written, alone, end_run, output_for, read_network, write_plan,
-};
+use tsn_cli::{NetworkRead, RunOutput, Written, alone, output_for, read_network, write_plan};
 use tsn_device::device::{ReadFault, Sink, Source};
 use tsn_model::NoMemory;
-use tsn_outcome::run::STOPPED;
 use tsn_outcome::{Answer, Outcome};
 use tsn_timing::Problem;
 use tsn_worker::{Method, Searched, search_by};
-
-/// Does what `plan_answer` does, and writes the line. No command calls it: it is for users of the crate. The answer is the status, and what
-/// is known where the limit was met: the flowspan of the plan that was written, if any, and what no valid schedule's flowspan is below.
-pub fn plan_run<
-    R: Threads + Wait + Sync,
-    N: Source,
-    S: Supervisor + Sync,
-    P: Sink,
-    C: Sink,
-    W: Sink,
->(
-    rt: &R,
-    alloc: Global,
-    network: &mut N,
-    effort: Effort,
-    supervisor: &S,
-    plan: &mut P,
-    cert: &mut Option<C>,
-    sink: &mut W,
-) -> PlanEnd
-    requires workers { (1 ≤ effort.workers) × (effort.workers ≤ 16) }
-    requires some { 1 ≤ effort.limit }
-    requires few { effort.limit ≤ 1_000_000_000 }
-    requires reads { N.failed network.old < 2 ^ 64 - 1 }
-    requires plan_writes { P.failed plan.old < 2 ^ 64 - 1 }
-    requires cert_writes { failed_in C.failed cert.old < 2 ^ 64 - 1 }
-    requires writes { W.failed sink.old < 2 ^ 64 - 1 }
-
-    ensures runs { RunsOver (PlanAnswers effort (is_some cert.old))
-        (source_over N.given N.failed N.is_at_end network.old network.new ∷ [])
-        (sink_over P.taken P.failed plan.old plan.new
-        ∷ sink_over (taken_in C.taken) (failed_in C.failed) cert.old cert.new
-        ∷ sink_over W.taken W.failed sink.old sink.new ∷ []) result.status }
-
-    // What is known where the limit was met, and only there.
-    ensures stopped { result.status ≡ STOPPED ↔ IsTrue (is_some result.stop) }
-    ensures stop { IfSome result.stop (λ stop. EndsOver (PlanStops effort.limit stop)
-        (source_over N.given N.failed N.is_at_end network.old network.new ∷ [])
-        (sink_over P.taken P.failed plan.old plan.new
-        ∷ sink_over (taken_in C.taken) (failed_in C.failed) cert.old cert.new
-        ∷ sink_over W.taken W.failed sink.old sink.new ∷ []) STOPPED) }
-{
-    let answer = plan_answer(rt, alloc, network, effort, supervisor, plan, cert);
-    let outcome = end_run(sink, answer);
-    PlanEnd {
-        status: outcome.status(),
-        stop: outcome.stop(),
-    }
-}
 
 /// Reads a network file and plans it by a method, with 1 to 16 workers and at most so many settlements, 1 to 1,000,000,000. It writes the
 /// plan, then its certificate, where there is a sink for it, and answers what was found, or why the file is refused, with a line that

@@ -1,9 +1,9 @@
 //! What no words of a command line ask for: offsets above their greatest, none at all, and no word.
 
 use std::process::Abort;
-use tsn_cli::valid_run;
 use tsn_memory::{MemorySink, MemorySource, NEVER};
 use tsn_networks::TWO;
+use tsn_runs::valid_run;
 use tsn_words::{Words, WordsFault, words_from};
 
 /// The run ends with this line and status 6.

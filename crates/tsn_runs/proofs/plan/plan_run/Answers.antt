@@ -3,7 +3,7 @@ use Rattle.tsn_outcome.proofs.LineLemmas.{said_over}
 use Rattle.tsn_outcome.proofs.SaidLemmas.{known_stop, stop_known}
 use Rattle.tsn_cli.specs.Plan.{PlanAnswers}
 use Rattle.tsn_cli.proofs.PlanLemmas.{stop_over}
-use Rattle.tsn_command.proofs.plan.plan_run.Goals as goal
+use Rattle.tsn_runs.proofs.plan.plan_run.Goals as goal
 
 pub returns-clause-runs : goal.returns-clause-runs
 returns-clause-runs g c =
