@@ -28,7 +28,7 @@ PAGES = [PAGE, os.path.join(ROOT, "README.md"), MAP, os.path.join(ROOT, "docs", 
 # What a line says of calls that no command makes.
 FOR_USERS = "for users of the crates"
 # Crates that promise something and that the program is built without.
-APART = ("tsn_core", "tsn_laws", "tsn_runs")
+APART = ("tsn_core", "tsn_laws", "tsn_planner", "tsn_runs")
 LEARNS = ("tsn_bounds", "tsn_solver", "tsn_translate", "tsn_learn")
 
 # What stands around the counts of functions in each page, and which counts these are.

@@ -1,4 +1,4 @@
-mod Teams
+pub mod Teams
 mod Gathering
 mod Bounds
 pub mod BatchTellers

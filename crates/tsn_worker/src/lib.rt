@@ -1,6 +1,6 @@
-//! The planner: it searches until no node is open, by one worker or by several, or finds what an argument shows, which it checks; and
-//! hands out the book, or the schedule with its certificate. Several work in threads of their own over a book that they share: each
-//! walks below nodes of a bag.
+//! The planner's search: until no node is open, by one worker or by several, or until it finds what an argument shows, which it checks.
+//! It hands out the book, or the plan with its argument. Several work in threads of their own over a book that they share: each walks
+//! below nodes of a bag.
 #![tactic(auto)]
 
 mod batch;
@@ -20,8 +20,8 @@ pub mod threads;
 mod worker;
 
 pub use deque::DequeBag;
-pub use planning::{plan, plan_by, plan_over, search_by};
-pub use searched::{Planned, Searched};
+pub use planning::{search_by, search_in_bags};
+pub use searched::Searched;
 pub use tsn_answer::{
     Answer, Effort, FILE_ORDER_LIMIT, Found, Known, MAX_LIMIT, MAX_WORKERS, Method, plan_of,
 };

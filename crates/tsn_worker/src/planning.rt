@@ -2,17 +2,17 @@
 ghost use Rattle.std.specs.Prelude.{◌≡◌, ◌≤◌, ◌<◌, ℕ, None, length, IfOk};
 ghost use Rattle.tsn_model.specs.Network.{HasFewStreams, stream_count};
 ghost use Rattle.tsn_words.specs.declared.options.Method.TheVariants.{FileOrder};
-ghost use Rattle.tsn_answer.specs.Optimum.{AnswersOptimum, FindsOptimum};
-ghost use Rattle.tsn_answer.specs.Answer.{HasTree, IsAnswerBy, IsAnswerReadAgain, IsAnswerShown, IsFound, IsFoundBy, HasNoArgument, KeepsFound, KeepsKept, KeepsKnown};
+ghost use Rattle.tsn_answer.specs.Optimum.{FindsOptimum};
+ghost use Rattle.tsn_answer.specs.Answer.{IsFound, IsFoundBy, HasNoArgument, KeepsFound, KeepsKept, KeepsKnown};
 ghost use Rattle.tsn_answer.specs.Known.{IsKnown};
 ghost use Rattle.tsn_walk.specs.Search.{IsSearchBy};
 ghost use Rattle.tsn_worker.specs.GoingOn.{GoesOn};
-ghost use Rattle.tsn_worker.specs.Team.{IsByTeam, IsTeamAnswer, IsTeamwork};
+ghost use Rattle.tsn_worker.specs.Team.{IsTeamwork};
 ghost use Rattle.tsn_worker.specs.declared.planning.TheConstants.{GOES_ON_FROM};
 
 use crate::deque::DequeBag;
 use crate::learned::{Learned, Question, find_by_learning, learn_of};
-use crate::searched::{Planned, Searched};
+use crate::searched::Searched;
 use crate::task::Task;
 use crate::telling::{tell_bound, tell_found};
 use crate::threads::search;
@@ -20,7 +20,7 @@ use std::alloc::Global;
 use std::marker::Brand;
 use std::sync::Wait;
 use std::thread::Threads;
-use tsn_answer::{Answer, Effort, FILE_ORDER_LIMIT, Found, Known, MAX_LIMIT, MAX_WORKERS};
+use tsn_answer::{Effort, FILE_ORDER_LIMIT, Found, Known, MAX_LIMIT, MAX_WORKERS};
 use tsn_book::Book;
 use tsn_branch::{FEW_STREAMS, Phase, Prepared, Setting, Supervisor, lower_bound};
 use tsn_incumbent::Parts;
@@ -34,71 +34,7 @@ use tsn_words::Method;
 // be left for the way along the best schedule that is known.
 const GOES_ON_FROM: usize = 2 * FILE_ORDER_LIMIT;
 
-/// The lexicographically least of the problem's schedules of least flowspan, or that there is none, each with a
-/// certificate that shows it; or, where `limit` nodes (1 to 1,000,000,000) were settled and one is still open,
-/// the book with the best schedule so far, if any. The search goes in the order of the file.
-///
-/// There are 1 to 16 workers. One is the caller, who then starts no thread and waits for nobody but the supervisor. Two or more run in
-/// threads of their own, or one after another where no thread can be made; the caller settles the first nodes before they
-/// start, and what they leave open after they have ended. The error says that there was no memory for the caller.
-#[tactic(auto, using(crate::proofs::Teams::has_tree))]
-pub fn plan<R: Threads + Wait + Sync, S: Supervisor + Sync>(
-    rt: &R,
-    alloc: Global,
-    problem: &Problem,
-    workers: usize,
-    limit: usize,
-    supervisor: &S,
-) -> Result<Answer, NoMemory>
-    requires workers { (1 ≤ workers) × (workers ≤ MAX_WORKERS) }
-    requires some { 1 ≤ limit }
-    requires few { limit ≤ MAX_LIMIT }
-    requires few_streams { HasFewStreams problem.now.network }
-    ensures optimum { IfOk result (AnswersOptimum problem.now.network) }
-    ensures shown { IfOk result (IsAnswerShown problem.now.network limit) }
-    ensures method { IfOk result HasTree }
-    ensures gathered { IfOk result (IsByTeam problem.now.network workers) }
-{
-    let effort = Effort {
-        method: Method::FileOrder,
-        workers,
-        limit,
-    };
-    let Planned { answer, word } = plan_by(rt, alloc, problem, effort, supervisor)?;
-    drop(word);
-    Ok(answer)
-}
-
-/// What `plan` answers, by any method, and the word that several workers shared for it.
-#[tactic(auto, using(crate::proofs::Teams::answered))]
-pub fn plan_by<R: Threads + Wait + Sync, S: Supervisor + Sync>(
-    rt: &R,
-    alloc: Global,
-    problem: &Problem,
-    effort: Effort,
-    supervisor: &S,
-) -> Result<Planned, NoMemory>
-    requires workers { (1 ≤ effort.workers) × (effort.workers ≤ MAX_WORKERS) }
-    requires some { 1 ≤ effort.limit }
-    requires few { effort.limit ≤ MAX_LIMIT }
-    requires few_streams { HasFewStreams problem.now.network }
-    ensures optimum { IfOk result (λ planned. AnswersOptimum problem.now.network planned.answer) }
-    ensures shown { IfOk result (λ planned. IsAnswerShown problem.now.network effort.limit planned.answer) }
-    ensures read_again { IfOk result (λ planned. IsAnswerReadAgain planned.answer) }
-    ensures method { IfOk result (λ planned. IsAnswerBy effort planned.answer) }
-    ensures gathered { IfOk result (λ planned. IsTeamAnswer problem.now.network effort.workers planned.word planned.answer) }
-{
-    let Searched { found, word } = search_by(rt, alloc, problem, effort, supervisor)?;
-    match found.into_answer(alloc) {
-        Ok(answer) => Ok(Planned { answer, word }),
-        Err(fault) => {
-            drop(word);
-            Err(fault)
-        }
-    }
-}
-
-/// What is searched for `plan_by`, and no certificate: the book that is left says which schedule is the first, or that there is
+/// What is searched for a plan, and no certificate: the book that is left says which schedule is the first, or that there is
 /// none, where no node is open in it. Where the limit is met the best schedule that any phase of the search has found is known
 /// besides, and what no schedule undercuts. Of more than 128 streams, which aren't searched in the order of the file, the
 /// conflict-driven search alone finds what an argument shows, or gives up with what is known then.
@@ -189,23 +125,22 @@ fn search_few<R: Threads + Wait + Sync, S: Supervisor + Sync>(
     found
 }
 
-/// What `plan` answers, by 2 to 16 workers, one a bag. The bags are handed in empty.
-pub fn plan_over<R: Threads + Wait + Sync, S: Supervisor + Sync, B: Bag + Send>(
+/// What 2 to 16 workers find in the order of the file, one a bag, of at most 128 streams. The bags are handed in empty.
+pub fn search_in_bags<R: Threads + Wait + Sync, S: Supervisor + Sync, B: Bag + Send>(
     rt: &R,
     alloc: Global,
     problem: &Problem,
     limit: usize,
     supervisor: &S,
     bags: Vec<B>,
-) -> Result<Answer, NoMemory>
+) -> Result<Searched, NoMemory>
     requires workers { (2 ≤ length bags.items) × (length bags.items ≤ MAX_WORKERS) }
     requires some { 1 ≤ limit }
     requires few { limit ≤ MAX_LIMIT }
     requires few_streams { HasFewStreams problem.now.network }
-    ensures optimum { IfOk result (AnswersOptimum problem.now.network) }
-    ensures shown { IfOk result (IsAnswerShown problem.now.network limit) }
-    ensures method { IfOk result HasTree }
-    ensures gathered { IfOk result (IsByTeam problem.now.network (length bags.items)) }
+    ensures found { IfOk result (λ searched. IsFound problem.now.network limit searched.found) }
+    ensures book { IfOk result (λ searched. HasNoArgument searched.found) }
+    ensures gathered { IfOk result (λ searched. IsTeamwork (length bags.items) searched.word searched.found) }
 {
     let prepared = Prepared::of(alloc, problem)?;
     let setting = prepared.setting(alloc, supervisor);
@@ -218,17 +153,15 @@ pub fn plan_over<R: Threads + Wait + Sync, S: Supervisor + Sync, B: Bag + Send>(
             limit,
         },
     };
-    let found = search_in_bags(rt, &task, bags);
+    let found = search_from_root(rt, &task, bags);
     drop(task);
     drop(setting);
     drop(prepared);
-    let Searched { found, word } = found?;
-    drop(word);
-    found.into_answer(alloc)
+    found
 }
 
-// What 2 to 16 workers find from the root on, one a bag.
-fn search_in_bags<R: Threads + Wait + Sync, S: Supervisor + Sync, B: Bag + Send>(
+// What several workers find from the root on, one a bag.
+fn search_from_root<R: Threads + Wait + Sync, S: Supervisor + Sync, B: Bag + Send>(
     rt: &R,
     task: &Task<'_, S>,
     bags: Vec<B>,

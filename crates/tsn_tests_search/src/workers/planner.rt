@@ -9,8 +9,9 @@ use tsn_argue::check_certificate;
 use tsn_cert::{Certificate, Plan};
 use tsn_check::Verdict;
 use tsn_networks::Network;
+use tsn_planner::{Planned, plan, plan_by, plan_over};
 use tsn_timing::Problem;
-use tsn_worker::{Answer, Bag, Effort, Method, Planned, Supervisor, plan, plan_by, plan_over};
+use tsn_worker::{Answer, Bag, Effort, Method, Supervisor};
 
 /// More nodes than any of these networks has.
 const LIMIT: usize = 1_000_000;

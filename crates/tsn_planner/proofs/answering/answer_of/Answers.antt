@@ -1,7 +1,7 @@
 use Rattle.std.proofs.Common.{subst}
 use Rattle.std.proofs.lemmas.Result.{IfOk-weaker}
 use Rattle.tsn_answer.specs.Answer.{IsFound, IsFoundBy}
-use Rattle.tsn_answer.proofs.found.Found.into_answer.Goals as goal
+use Rattle.tsn_planner.proofs.answering.answer_of.Goals as goal
 
 pub returns-in-Finished-clause-method : goal.returns-in-Finished-clause-method
 returns-in-Finished-clause-method c = IfOk-weaker c.certify.result _ _ (λ answer by effort found. by effort) c.certify.ensures.method

@@ -3,7 +3,7 @@ use Rattle.tsn_cert.specs.declared.certificate.Certificate.TheVariants.{Tree}
 use Rattle.tsn_answer.specs.Optimum.{AnswersOptimum}
 use Rattle.tsn_answer.specs.Answer.{IsAnswerReadAgain, IsAnswerShown, IsCertOf, IsOfBook}
 use Rattle.tsn_answer.proofs.Deciding.{answer_read_again, certified_optimum, certified_shown, of_book}
-use Rattle.tsn_answer.proofs.found.certify.Goals as goal
+use Rattle.tsn_planner.proofs.answering.certify.Goals as goal
 
 pub returns-in-Ok-into_cert-clause-optimum : goal.returns-in-Ok-into_cert-clause-optimum
 returns-in-Ok-into_cert-clause-optimum c =
