@@ -16,10 +16,10 @@ use Rattle.std.proofs.lemmas.Map.Lookups.{exact_bytes}
 use Rattle.toml.specs.Data.{Data, string, integer, float, boolean, datetime, array, table, Members, no_members, member, get_member, get, as_integer}
 use Rattle.tsn_model.specs.Network.{Stream, no_stream, stream_at, turns_of, period_of, release_of, latest_of}
 use Rattle.tsn_model.specs.Held.{AreFree, had}
+use Rattle.tsn_model.specs.declared.fault.Place.TheVariants as place
 use Rattle.tsn_net.specs.declared.schema.Key.TheVariants as key
-use Rattle.tsn_net.specs.declared.schema.Table.TheVariants as tables
 use Rattle.tsn_net.specs.Schema.{name_of, has_routes, has_window, stream_keys, known, member_keys, keys_in, has_unknown_key}
-use Rattle.tsn_net.specs.Document.{Document, unsigned, number_at, number_or}
+use Rattle.tsn_net.specs.Document.{Document, table_at, unsigned, number_at, number_or}
 use Rattle.tsn_net.specs.Conditions.{holds, fault_of, unknown_key}
 use Rattle.tsn_net.specs.Problem.{cycle_of, node_names_of, links_of, stream_of, offset_at, offsets_of, free_network_of}
 use Rattle.tsn_net.proofs.Faultless.{clear}
@@ -60,13 +60,13 @@ module _ (d : Document) (none : fault_of d ≡ None) where
   stream_of_file : ℕ → Data
   stream_of_file i = get_or d.streams i (table no_members)
 
-  all_known : (i : ℕ) → i < length d.streams → has_unknown_key tables.Stream (stream_of_file i) ≡ false
+  all_known : (i : ℕ) → i < length d.streams → has_unknown_key (table_at (place.Stream 0)) (stream_of_file i) ≡ false
   unfolding holds unknown_key stream_of_file
   all_known i below = (clear d 2 none (omega arith)).streams i below
 
-  no_window : (stream v : Data) → has_unknown_key tables.Stream stream ≡ false → get (name_of key.Offset) stream ≡ Some v → has_window stream ≡ false
+  no_window : (stream v : Data) → has_unknown_key (table_at (place.Stream 0)) stream ≡ false → get (name_of key.Offset) stream ≡ Some v → has_window stream ≡ false
   no_window stream v known_all there = unknown_beside (has_routes stream) (has_window stream)
-      (key_there (name_of key.Offset) (λ name. not (list_any (λ k. bytes_eq (name_of k) name) (known tables.Stream stream))) stream v there known_all)
+      (key_there (name_of key.Offset) (λ name. not (list_any (λ k. bytes_eq (name_of k) name) (known (table_at (place.Stream 0)) stream))) stream v there known_all)
 
   absent : (found : Option Data) → is_some found ≡ false → found ≡ None
   absent None isnt = refl
@@ -79,7 +79,7 @@ module _ (d : Document) (none : fault_of d ≡ None) where
   no_latest cycle stream is = ap (λ found. option_map_or unsigned (option_and_then as_integer found) cycle) is
 
   there_of : (stream : Data) (offset : ℕ) → (found : Option Data) → get (name_of key.Offset) stream ≡ found → offset_at stream ≡ Some offset
-      → has_unknown_key tables.Stream stream ≡ false
+      → has_unknown_key (table_at (place.Stream 0)) stream ≡ false
       → has_window stream ≡ false
   there_of stream offset None is some known_all = absurd
       (none-some offset (sym (ap (λ found. option_map unsigned (option_and_then as_integer found)) is) ∙ some))

@@ -6,9 +6,8 @@ use Rattle.std.proofs.lemmas.Bool.Decides.{nat_tests}
 use Rattle.std.proofs.lemmas.Option.{none-some, same_Some}
 use Rattle.tsn_model.specs.declared.fault.Code.{Code}
 use Rattle.tsn_model.specs.declared.fault.Place.{Place}
-use Rattle.tsn_model.specs.declared.fault.Place.TheVariants.{Top}
+use Rattle.tsn_model.specs.declared.fault.Place.TheVariants.{Top, Stream}
 use Rattle.tsn_model.specs.Fault.{code_number}
-use Rattle.tsn_net.specs.declared.schema.Table.TheVariants as tables
 use Rattle.tsn_net.specs.declared.matter.Matter.{Matter}
 use Rattle.tsn_net.specs.declared.matter.Matter.TheVariants as matter
 use Rattle.tsn_net.specs.declared.matter.End.TheVariants.{First, Last}
@@ -41,8 +40,8 @@ differ {A} {X} {r} {x} none some = absurd (none-some x (sym none ∙ some))
 odds : {A : Type 0} {b : Bool} → b ≡ true → b ≡ false → A
 odds holds fails = absurd (false≢true (sym fails ∙ holds))
 
-elsewhere : {A : Type 0} {p : Place} → p ≡ Top → table_at p ≡ tables.Stream → A
-elsewhere top stream = let clash : tables.Top ≡ tables.Stream = sym (ap table_at top) ∙ stream in cc
+elsewhere : {A : Type 0} {p : Place} → p ≡ Top → table_at p ≡ table_at (Stream 0) → A
+elsewhere top stream = let clash : table_at Top ≡ table_at (Stream 0) = sym (ap table_at top) ∙ stream in cc
 
 -- one route hasn't fewer than two names and two, nor a name twice and none
 module _ {A : Type 0} {f : Option (List (List ℕ))} {r s : List (List ℕ)} (here : f ≡ Some r) (there : f ≡ Some s) where
