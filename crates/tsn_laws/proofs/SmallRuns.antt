@@ -2,13 +2,12 @@
 use Rattle.std.proofs.Common.{◌≡◌, ◌≢◌, ℕ, zero, suc, ◌+◌, ◌*◌, ◌≤◌, ◌<◌, ◌⊎◌, List, [], ◌∷◌, All, AllPairs, Any, IsBitSet, bit_and, refl, sym, ap, ◌∙◌, subst, arith, inl, inr, suc-ne-zero}
 use Rattle.std.proofs.lemmas.Bool.{cases_lt}
 use Rattle.std.proofs.lemmas.List.Elements.{All-nil, All-cons}
-use Rattle.tsn_model.specs.Network.{stream_at, octets_of, turns_of, burst_of, route_of, link_at, hop_count, stream_count}
-use Rattle.tsn_model.specs.Timing.{occupancy, transfer, hop_delay, Sends}
+use Rattle.tsn_model.specs.Network.{stream_at, octets_of, route_of, link_at}
+use Rattle.tsn_model.specs.Timing.{occupancy, transfer, hop_delay}
 use Rattle.tsn_model.specs.Gates.{cycle_of, IsOctetAt}
 use Rattle.tsn_model.specs.Bridge.{BackgroundOpen, GatesAt, Passage, ScheduledStart, BackgroundStart, BridgeRun, WireUse, link_of, length_of, scheduled_use, background_use, wire_uses, AreDisjoint, IsPassage, StartedAt, NotStartedBefore, IsReady, FitsAt, IsQueuedBefore, IsBlocked, IsBridgeRun, BackgroundFrame, frame_at, IsBefore, FrameStartedBefore, IsTaken, IsHeld, IsFedByList}
 use Rattle.tsn_model.specs.Examples.{small_network}
-use Rattle.tsn_laws.proofs.SmallEarly.{follow}
-use Rattle.tsn_gate.proofs.SingleFrames.{one_shift, sent_from_one}
+use Rattle.tsn_laws.proofs.SmallEarly.{follow, passage, each_passage, is_passage}
 use Rattle.tsn_replay.specs.ReplayExamples.{open_entries, open_gates, at_once, small_starts, run_of, run_with_twice, sent_at, SmallRun, SmallBackground}
 
 -- ---- gates that are always open
@@ -27,48 +26,6 @@ background_open : (t : ℕ) → BackgroundOpen open_gates 4 t
 background_open t = is_open 4 t (λ octet. bit_and octet 0x7F ≢ 0) (inr (inr refl)) (λ never. suc-ne-zero _ never)
 
 -- ---- the passages of one cycle
-
-abbrev passage : ℕ → ℕ → Passage
-passage stream hop = record { stream = stream; shift = 0; cycle = 0; hop = hop }
-
--- each stream sends one frame, at its offset
-at_offset : (stream shift : ℕ) → stream < stream_count small_network → Sends small_network stream shift → shift ≡ 0
-unfolding small_network stream_at turns_of burst_of
-at_offset zero shift counted sent = one_shift small_network 0 shift refl refl sent
-at_offset (suc zero) shift counted sent = one_shift small_network 1 shift refl refl sent
-at_offset (suc (suc stream)) shift counted sent = absurd (omega arith)
-
-first_sent : Sends small_network 0 0
-unfolding small_network stream_at turns_of burst_of
-first_sent = sent_from_one small_network 0 refl refl
-
-second_sent : Sends small_network 1 0
-unfolding small_network stream_at turns_of burst_of
-second_sent = sent_from_one small_network 1 refl refl
-
-each_passage : (P : Passage → Type 0) → P (passage 0 0) → P (passage 1 0) → P (passage 0 1) → P (passage 1 1) → (p : Passage) → IsPassage small_network 1 p
-    → P p
-unfolding small_network stream_at route_of
-each_passage P a b c d p is =
-    subst (λ s. P (record { stream = p.stream; shift = s; cycle = p.cycle; hop = p.hop })) (sym (at_offset p.stream p.shift is.stream is.sent))
-    (at p.stream p.cycle p.hop is.stream is.cycle is.hop)
-  where
-    at : (stream cycle hop : ℕ) → stream < stream_count small_network → cycle < 1 → hop < hop_count small_network stream
-        → P (record { stream = stream; shift = 0; cycle = cycle; hop = hop })
-    at zero zero zero counted below hops = a
-    at zero zero (suc zero) counted below hops = c
-    at zero zero (suc (suc hop)) counted below hops = absurd (omega arith)
-    at (suc zero) zero zero counted below hops = b
-    at (suc zero) zero (suc zero) counted below hops = d
-    at (suc zero) zero (suc (suc hop)) counted below hops = absurd (omega arith)
-    at (suc (suc stream)) zero hop counted below hops = absurd (omega arith)
-    at stream (suc cycle) hop counted below hops = absurd (omega arith)
-
-is_passage : (stream hop : ℕ) → stream < 2 → hop < 2 → IsPassage small_network 1 (passage stream hop)
-unfolding small_network stream_at route_of
-is_passage zero hop counted below = record { stream = omega arith; sent = first_sent; cycle = omega arith; hop = below }
-is_passage (suc zero) hop counted below = record { stream = omega arith; sent = second_sent; cycle = omega arith; hop = below }
-is_passage (suc (suc stream)) hop counted below = absurd (omega arith)
 
 -- each passage fits everywhere
 fits : (p : Passage) → IsPassage small_network 1 p → (t : ℕ) → FitsAt small_network open_gates p t

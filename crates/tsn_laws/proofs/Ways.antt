@@ -1,5 +1,5 @@
 -- Which ways are whole, and that a run where no link has failed is a run of bridges.
-use Rattle.std.proofs.Common.{◌≡◌, ℕ, ◌<◌, List, [], ◌∷◌, length, slice_index, Contains, sym, subst, inl, inr}
+use Rattle.std.proofs.Common.{ℕ, ◌<◌, List, [], ◌∷◌, length, slice_index, Contains, sym, subst, inl, inr}
 use Rattle.std.proofs.lemmas.List.Elements.{All-nil, All-cons, All-contains}
 use Rattle.tsn_model.specs.Network.{Network, IsRoute, IsSent, Continues}
 use Rattle.tsn_model.specs.Bridge.{LinkGates, BridgeRun, IsBridgeRun}
